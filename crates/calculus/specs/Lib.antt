@@ -1,0 +1,6 @@
+pub mod Tree
+pub mod Rules
+pub mod Term
+pub mod Bytes
+pub mod Abstraction
+pub mod Runs

@@ -1,0 +1,71 @@
+-- The fields of a packet (The packet). Assumes nothing: these are definitions.
+use Prim.Native.Nat.{ℕ, zero, suc, _+_, _*_}
+use mathlib.Core.Bool.{Bool, true, false, cond, _&&_}
+use mathlib.Core.List.{List, [], _∷_}
+use mathlib.Core.Option.{Option, none, some}
+use lib.ListN.{length, take, drop}
+use lib.Dec.{leb, eqb}
+
+-- "Fields: one-byte tag, two-byte length (high byte first), value."
+pub record Field : Type 0 where
+  pub tag : ℕ
+  pub value : List ℕ
+
+unfoldable pub before : Field → Option (List Field) → Option (List Field)
+before f none = none
+before f (some fs) = some (f ∷ fs)
+
+-- The fields that bytes are, each with its whole value. The first argument bounds their number; the bytes' length is enough.
+unfoldable pub fields : ℕ → List ℕ → Option (List Field)
+fields zero [] = some []
+fields zero (t ∷ l) = none
+fields (suc n) [] = some []
+fields (suc n) (t ∷ []) = none
+fields (suc n) (t ∷ (high ∷ [])) = none
+fields (suc n) (t ∷ (high ∷ (low ∷ l))) =
+    cond (leb (high * 256 + low) (length l))
+    (before (record { tag = t; value = take (high * 256 + low) l }) (fields n (drop (high * 256 + low) l)))
+    none
+
+-- a packet's rule, its arguments' texts and its step limit
+pub record Packet : Type 0 where
+  pub rule : List ℕ
+  pub arguments : List (List ℕ)
+  pub limit : ℕ
+
+-- "Without it the limit is 10,000."
+abbrev pub defaultLimit : ℕ
+defaultLimit = 10000
+
+-- bytes as a number, high first
+unfoldable pub highFirst : ℕ → List ℕ → ℕ
+highFirst n [] = n
+highFirst n (b ∷ l) = highFirst (n * 256 + b) l
+
+unfoldable pub withArgument : List ℕ → Option Packet → Option Packet
+withArgument v none = none
+withArgument v (some p) = some (record { rule = p .rule; arguments = v ∷ p .arguments; limit = p .limit })
+
+-- "then at most one tag 3, four bytes, high first, the step limit, at most 1,000,000": the last field
+unfoldable pub lastField : List ℕ → Field → List Field → Option Packet
+lastField r f [] =
+    cond (eqb (f .tag) 3 && (eqb (length (f .value)) 4 && leb (highFirst 0 (f .value)) 1000000))
+    (some (record { rule = r; arguments = []; limit = highFirst 0 (f .value) }))
+    none
+lastField r f (g ∷ fs) = none
+
+-- "then none to eight of tag 2, an argument's text": at most k of them
+unfoldable pub afterRule : List ℕ → ℕ → List Field → Option Packet
+afterRule r k [] = some (record { rule = r; arguments = []; limit = defaultLimit })
+afterRule r zero (f ∷ fs) = lastField r f fs
+afterRule r (suc k) (f ∷ fs) = cond (eqb (f .tag) 2) (withArgument (f .value) (afterRule r k fs)) (lastField r f fs)
+
+-- "First tag 1, a rule"
+unfoldable pub fromFields : Option (List Field) → Option Packet
+fromFields none = none
+fromFields (some []) = none
+fromFields (some (f ∷ fs)) = cond (eqb (f .tag) 1) (afterRule (f .value) 8 fs) none
+
+-- "Anything else, or more than 16,384 bytes, is 6."
+unfoldable pub packet : List ℕ → Option Packet
+packet l = cond (leb (length l) 16384) (fromFields (fields (length l) l)) none

@@ -1,0 +1,1 @@
+// The fields of a packet. The definitions are in specs/.

@@ -1,0 +1,57 @@
+-- The whole outcome of an operation on a table and a stack, and the checks and memory effects that the operations share (Operations).
+-- Assumes nothing: these are definitions.
+use Prim.Native.Nat.{ℕ, _+_, _*_, _/_}
+use mathlib.Core.Bool.{Bool, true, false, cond, _&&_}
+use mathlib.Core.List.{List, [], _∷_}
+use mathlib.Core.Option.{Option, none, some}
+use lib.ListN.{length, replicate}
+use lib.Dec.{leb}
+use Rattle.calculus.specs.Tree.{Tree}
+use Rattle.table.specs.Nodes.{Table, Placed, capacity, sound, lay, cleared}
+use Rattle.table.specs.declared.Refusal.{Refusal}
+use Rattle.table.specs.declared.Refusal.the-variants.{Limits, Broken}
+use Rattle.table.specs.declared.Made.{Made}
+use Rattle.table.specs.declared.Made.the-variants
+
+-- the answer, and every lent word as the operation leaves it
+pub record Outcome (A : Type 0) : Type 0 where
+  pub answer : A
+  pub table : List ℕ
+  pub stack : List ℕ
+
+abbrev pub whole : {A : Type 0} → A → List ℕ → List ℕ → Outcome A
+whole a w s = record { answer = a; table = w; stack = s }
+
+-- "The stack is a lent run of at most 65,536 32-bit words, three a frame, rounded down." (Trees and their table)
+abbrev pub frames : List ℕ → ℕ
+frames s = length s / 3
+
+-- every word of a lent stack set to 0
+abbrev pub zeros : List ℕ → List ℕ
+zeros s = replicate (length s) 0
+
+-- "1: table or stack too long, or used above capacity."
+unfoldable pub fits : List ℕ → ℕ → List ℕ → Bool
+fits w u s = leb (length w) 131072 && (leb (length s) 65536 && leb u (capacity w))
+
+-- Refusal 1, then 2. `own` is what the operation's own part of 1 asks.
+unfoldable pub atEntry : Bool → List ℕ → ℕ → List ℕ → Option Refusal
+atEntry own w u s = cond (own && fits w u s) (cond (sound w u) none (some Broken)) (some Limits)
+
+-- refused with e where a check says so, else what follows
+abbrev pub unless : {A : Type 0} → Option Refusal → (Refusal → A) → A → A
+unless none refuse next = next
+unless (some e) refuse next = refuse e
+
+-- "Numbers 7 to 10 set to 0 the words of the nodes made in the call and the whole stack": t is the table where the call stopped, and u was in
+-- use at entry
+unfoldable pub stopped : {A : Type 0} → A → Table → ℕ → List ℕ → Outcome A
+stopped a t u s = whole a (cleared (t .words) (u * 2) (t .used * 2)) (zeros s)
+
+-- "Success also sets the stack to 0, and no other table word than those of new nodes changes."
+unfoldable pub placed : Placed → List ℕ → Outcome Made
+placed p s = whole (the-variants.Node (p .node) (p .table .used)) (p .table .words) (zeros s)
+
+-- a tree laid out in new nodes, as Read and Translate do
+unfoldable pub laid : List ℕ → ℕ → List ℕ → Tree → Outcome Made
+laid w u s t = placed (lay (record { words = w; used = u }) t) s

@@ -1,0 +1,36 @@
+-- The refusals' numbers, and the numbers of an answer. Assumes nothing: these are definitions.
+use Prim.Native.Nat.{ℕ}
+use Rattle.table.specs.declared.Refusal.{Refusal}
+use Rattle.table.specs.declared.Refusal.the-variants.{Limits, Broken, Node, Text, Rule, Packet, Steps, Nodes, Frames, Out}
+use Rattle.table.specs.declared.Made.{Made}
+use Rattle.table.specs.declared.Made.the-variants
+
+-- the number that document 01 gives each refusal (Operations, The packet)
+unfoldable pub number : Refusal → ℕ
+number Limits = 1
+number Broken = 2
+number Node = 3
+number Text = 4
+number Rule = 5
+number Packet = 6
+number Steps = 7
+number Nodes = 8
+number Frames = 9
+number Out = 10
+
+-- What an operation returns, as document 01 counts it: refusal 0 is success.
+pub record Numbers : Type 0 where
+  pub refusal : ℕ
+  pub node : ℕ
+  pub used : ℕ
+  pub steps : ℕ
+  pub digits : ℕ
+
+-- "A refusal returns its number, used as at entry, and 0 for node number, steps and digits." (Operations)
+unfoldable pub refusedNumbers : ℕ → Refusal → Numbers
+refusedNumbers used e = record { refusal = number e; node = 0; used = used; steps = 0; digits = 0 }
+
+-- the numbers of Read's, Translate's and Label's answer, with `used` as at entry
+unfoldable pub madeNumbers : ℕ → Made → Numbers
+madeNumbers used (the-variants.Node n u) = record { refusal = 0; node = n; used = u; steps = 0; digits = 0 }
+madeNumbers used (the-variants.Refused e) = refusedNumbers used e

@@ -1,0 +1,31 @@
+// A lent table's words as nodes, and the refusals. The definitions are in specs/.
+
+// Why an operation was refused. `specs/Refusal.antt` gives the number of each.
+pub enum Refusal {
+    // a length, a count or a limit is too large
+    Limits,
+    // a used node is broken
+    Broken,
+    // a node number is not below used
+    Node,
+    // a text is not one whole tree
+    Text,
+    // bytes are not a rule
+    Rule,
+    // a packet is broken
+    Packet,
+    // the step limit is reached
+    Steps,
+    // a new node has no place
+    Nodes,
+    // every frame is held
+    Frames,
+    // the out bytes are full
+    Out,
+}
+
+// The answer of an operation that makes nodes: the node and the new count of used nodes.
+pub enum Made {
+    Node { node: usize, used: usize },
+    Refused(Refusal),
+}

@@ -1,0 +1,1 @@
+// A rule's bytes to its tree: Translate. The definitions are in specs/.
