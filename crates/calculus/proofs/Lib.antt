@@ -1,0 +1,5 @@
+-- The theorems of the calculus; other crates cite them.
+pub mod Unique
+pub mod Size
+pub mod Rule
+pub mod Demand3
