@@ -2,3 +2,4 @@ pub mod Words
 pub mod Trees
 pub mod Making
 pub mod Entry
+pub mod Laid

@@ -8,7 +8,7 @@ use lib.ListN.{length, getD}
 use Rattle.calculus.specs.Tree.{Tree, leaf, stem, fork, size}
 use Rattle.table.specs.Nodes.{Table, Placed, capacity, first, second, sound, Sound, treeAt, make, lay}
 use Rattle.table.proofs.Words.{Unbroken, wrote, wrote-other, wrote-first, wrote-second, length-wrote, sound-wrote}
-use Rattle.table.proofs.Trees.{Extends, extends-trans, kept-tree, tree-leaf, tree-stem, tree-fork}
+use Rattle.table.proofs.Trees.{Kept, Extends, extends-trans, kept-tree, tree-leaf, tree-stem, tree-fork}
 
 -- the node made in, or found in, a table that was t has the tree x
 pub record Places (t : Table) (m : Placed) (x : Tree) : Type 0 where
@@ -114,22 +114,29 @@ size-pos leaf = omega arith
 size-pos (stem p) = omega arith
 size-pos (fork p q) = omega arith
 
--- what a stem or a fork of placed nodes is placed as
-on-stem : {t : Table} {m : Placed} {p : Tree} → Places t m p → m .table .used < capacity (m .table .words) → Places t (make (m .table) (m .node + 1) 0) (stem p)
-on-stem {t} {m} x free =
-    let y = make-stem (x .fine) free (m .node) (x .inside) in
-    record { fine = y .fine; extends = extends-trans (x .extends) (y .extends); inside = y .inside; tree = y .tree ∙ ap stem (x .tree) }
+-- node i of t is in use and has the tree x
+pub record Has (t : Table) (i : ℕ) (x : Tree) : Type 0 where
+  pub inside : i < t .used
+  pub tree : treeAt (t .words) i ≡ x
 
-on-fork : {t : Table} {m n : Placed} {p q : Tree} → Places t m q → Places (m .table) n p → n .table .used < capacity (n .table .words)
-    → Places t (make (n .table) (n .node + 1) (m .node + 1)) (fork p q)
-on-fork {t} {m} {n} x z free =
-    let y = make-fork (z .fine) free (n .node) (m .node) (z .inside) (omega (arith, x .inside, z .extends .kept .up)) in
-    record {
-      fine = y .fine;
-      extends = extends-trans (extends-trans (x .extends) (z .extends)) (y .extends);
-      inside = y .inside;
-      tree = y .tree ∙ ap₂ fork (z .tree) (kept-tree (x .fine) (z .extends .kept) (m .node) (x .inside) ∙ x .tree);
-    }
+pub has : {t : Table} {m : Placed} {x : Tree} → Places t m x → Has (m .table) (m .node) x
+has p = record { inside = p .inside; tree = p .tree }
+
+-- old nodes keep their trees
+pub stays : {t z : Table} {i : ℕ} {x : Tree} → Sound t → Kept t z → Has t i x → Has z i x
+stays {i = i} s k h = record { inside = omega (arith, h .inside, k .up); tree = kept-tree s k i (h .inside) ∙ h .tree }
+
+-- a stem and a fork of nodes whose trees are known
+module _ {t : Table} (s : Sound t) (free : t .used < capacity (t .words)) where
+  pub stem-of : {p : ℕ} {x : Tree} → Has t p x → Places t (make t (p + 1) 0) (stem x)
+  stem-of {p} h = rw (← h .tree) (make-stem s free p (h .inside))
+
+  pub fork-of : {p q : ℕ} {x y : Tree} → Has t p x → Has t q y → Places t (make t (p + 1) (q + 1)) (fork x y)
+  fork-of {p} {q} h k = rw (← h .tree, ← k .tree) (make-fork s free p q (h .inside) (k .inside))
+
+-- a further node, made in a table that extends t
+pub further : {t : Table} {m n : Placed} {x y : Tree} → Places t m x → Places (m .table) n y → Places t n y
+further p q = record { fine = q .fine; extends = extends-trans (p .extends) (q .extends); inside = q .inside; tree = q .tree }
 
 -- a tree is laid out as that tree, where its nodes have room
 pub lay-places : {t : Table} → Sound t → (x : Tree) → t .used + size x ≤ capacity (t .words) → Places t (lay t x) x
@@ -137,9 +144,11 @@ unfolding lay size
 lay-places {t} s leaf h = make-leaf s (omega arith)
 lay-places {t} s (stem p) h =
     let x = lay-places s p (omega arith) in
-    on-stem x (omega (arith, lay-used t p, x .extends .kept .same-length))
+    further x (stem-of (x .fine) (omega (arith, lay-used t p, x .extends .kept .same-length)) (has x))
 lay-places {t} s (fork p q) h =
     let m = lay t q in
     let x = lay-places s q (omega (arith, size-pos p)) in
     let z = lay-places (x .fine) p (omega (arith, lay-used t q, x .extends .kept .same-length)) in
-    on-fork x z (omega (arith, lay-used t q, lay-used (m .table) p, x .extends .kept .same-length, z .extends .kept .same-length))
+    further (further x z)
+    (fork-of (z .fine) (omega (arith, lay-used t q, lay-used (m .table) p, x .extends .kept .same-length, z .extends .kept .same-length))
+    (has z) (stays (x .fine) (z .extends .kept) (has x)))
