@@ -39,14 +39,17 @@ pub record Sound (t : Table) : Type 0 where
   pub within : t .used ≤ capacity (t .words)
   pub unbroken : sound (t .words) (t .used) ≡ true
 
--- "A branch word is 0 for no branch, else the branch's node number plus 1." The tree of a node, going at most k branches deep; "branches come
--- before parents", so node i has at most i below it on any way down.
+-- "A branch word is 0 for no branch, else the branch's node number plus 1.": the tree of a node by its branch words, where `tree` gives the tree
+-- of a branch
+unfoldable pub branches : (ℕ → Tree) → ℕ → ℕ → Tree
+branches tree zero b = leaf
+branches tree (suc p) zero = stem (tree p)
+branches tree (suc p) (suc q) = fork (tree p) (tree q)
+
+-- The tree of a node, going at most k branches deep; "branches come before parents", so node i has at most i below it on any way down.
 unfoldable pub treeTo : ℕ → List ℕ → ℕ → Tree
 treeTo zero w i = leaf
-treeTo (suc k) w i =
-    cond (eqb (first w i) 0) leaf
-    (cond (eqb (second w i) 0) (stem (treeTo k w (first w i - 1)))
-    (fork (treeTo k w (first w i - 1)) (treeTo k w (second w i - 1))))
+treeTo (suc k) w i = branches (treeTo k w) (first w i) (second w i)
 
 abbrev pub treeAt : List ℕ → ℕ → Tree
 treeAt w i = treeTo (suc i) w i

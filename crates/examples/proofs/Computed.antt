@@ -1,0 +1,37 @@
+-- The starred lines, proved about the definitions by one computed test over the whole table.
+use mathlib.Core.Path.{_≡_, refl}
+use mathlib.Core.List.{List, map}
+use Rattle.calculus.specs.Tree.{size}
+use Rattle.calculus.specs.Bytes as bytes
+use Rattle.calculus.specs.Abstraction as abstraction
+use Rattle.table.specs.Nodes as nodes
+use Rattle.table.specs.Outcome as outcome
+use Rattle.table.specs.Refusal as refusal
+use Rattle.text.specs.Text as text
+use Rattle.text.specs.Read as read
+use Rattle.text.specs.Write as write
+use Rattle.term.specs.Translate as translate
+use Rattle.machine.specs.Machine as machine
+use Rattle.machine.specs.Apply as apply
+use Rattle.packet.specs.Packet as packet
+use Rattle.run.specs.Run as run
+use Rattle.examples.specs.Rows as examples
+use Rattle.examples.specs.Starred.{Row, rows}
+
+pub starred : map (λ (r : Row). examples.line (r .input)) rows ≡ map (λ (r : Row). r .outcome) rows
+unfolding rows size
+    bytes.bytes bytes.abstraction bytes.application bytes.argument bytes.parse bytes.whole bytes.rule
+    abstraction.bracket abstraction.translate abstraction.grown abstraction.treeOf abstraction.ruleTree
+    nodes.broken nodes.sound nodes.branches nodes.treeTo nodes.make nodes.lay
+    outcome.fits outcome.atEntry outcome.stopped outcome.placed outcome.laid
+    refusal.number refusal.refusedNumbers refusal.madeNumbers
+    text.text text.takeLeaf text.takeStem text.takeFork text.takeDigit text.pending text.single text.treeOf text.count text.mostPending
+    read.readable read.readTree read.read
+    write.next write.spend write.digits write.written write.write
+    translate.translateRule translate.translate
+    machine.forkRule machine.rule machine.resume machine.grow machine.hold machine.useRule machine.turn machine.after machine.uses
+    apply.settle apply.apply
+    packet.before packet.fields packet.highFirst packet.withArgument packet.lastField packet.afterRule packet.fromFields packet.packet
+    run.ranNumbers run.stopped run.afterMade run.afterApplied run.afterWritten run.writes run.applies run.reads run.stages run.allReadable run.runPacket run.lengthsFit run.run
+    examples.afterMade examples.afterApplied examples.applyLine examples.readAll examples.place examples.field examples.arguments examples.lengths examples.taken examples.runLine examples.line
+starred = refl

@@ -1,0 +1,136 @@
+-- Laws of Label for callers: what a success gives, and what a refusal leaves. Assumes nothing.
+use Prim.Native.Nat.{ℕ, _+_, _-_, _*_, _≤_, _<_}
+use mathlib.Core.Path.{_≡_, refl, sym, ap, ap₂, _∙_, subst}
+use mathlib.Core.Bool.{Bool, true, false, cond, _&&_}
+use mathlib.Core.List.{List, []}
+use mathlib.Core.Option.{Option, none, some}
+use native.Mathlib.Omega.{arith}
+use lib.Dec.{ltb}
+use borrow.Author.Tests.{ltb-true, ltb-false}
+use Rattle.calculus.specs.Tree.{Tree, leaf, stem, fork}
+use Rattle.table.specs.Nodes.{Table, Placed, capacity, Sound, treeAt, make}
+use Rattle.table.specs.Outcome.{atEntry, unless}
+use Rattle.table.specs.declared.Refusal.{Refusal}
+use Rattle.table.specs.declared.Refusal.the-variants.{Nodes}
+use Rattle.table.specs.declared.Refusal.the-variants as refusal
+use Rattle.table.specs.declared.Made.the-variants.{Node, Refused}
+use Rattle.table.proofs.Words.{and-left, and-right}
+use Rattle.table.proofs.Trees.{Extends, extends-refl, extends-trans}
+use Rattle.table.proofs.Making.{Places, Has, has, stays, stem-of, fork-of, make-used, make-leaf}
+use Rattle.table.proofs.Entry.{Entered, entered}
+use Rattle.label.specs.Label.{labelled, Outcome, whole, nodes, placed, label}
+
+-- z is t with k nodes more
+record Grown (t : Table) (k : ℕ) (z : Table) : Type 0 where
+  fine : Sound z
+  extends : Extends t z
+  used-is : z .used ≡ t .used + k
+
+-- one node more, whose tree is x
+next : {t z : Table} {k : ℕ} {m : Placed} {x : Tree} → Grown t k z → Places z m x → m .table .used ≡ z .used + 1 → Grown t (k + 1) (m .table)
+next g p e = record { fine = p .fine; extends = extends-trans (g .extends) (p .extends); used-is = omega (arith, g .used-is) }
+
+room : {t z : Table} {k : ℕ} → Grown t k z → k < 7 → t .used + 7 ≤ capacity (t .words) → z .used < capacity (z .words)
+room g h r = omega (arith, g .used-is, g .extends .kept .same-length)
+
+-- the seven nodes have the labelled tree
+pub nodes-place : {t : Table} → Sound t → (f l : ℕ) → f < t .used → l < t .used → t .used + 7 ≤ capacity (t .words)
+    → Places t (nodes t f l) (labelled (treeAt (t .words) f) (treeAt (t .words) l)) × (nodes t f l .table .used ≡ t .used + 7)
+unfolding nodes
+nodes-place {t} s f l hf hl r =
+    let g0 : Grown t 0 t = record { fine = s; extends = extends-refl t; used-is = omega arith } in
+    let p1 = make-leaf s (room g0 (omega arith) r) in
+    let g1 = next g0 p1 (make-used _ _ _) in
+    let p2 = stem-of (g1 .fine) (room g1 (omega arith) r) (has p1) in
+    let g2 = next g1 p2 (make-used _ _ _) in
+    let p3 = fork-of (g2 .fine) (room g2 (omega arith) r) (stays (g1 .fine) (p2 .extends .kept) (has p1)) (has p2) in
+    let g3 = next g2 p3 (make-used _ _ _) in
+    let p4 = stem-of (g3 .fine) (room g3 (omega arith) r) (stays s (g3 .extends .kept) (known f hf)) in
+    let g4 = next g3 p4 (make-used _ _ _) in
+    let p5 = fork-of (g4 .fine) (room g4 (omega arith) r) (has p4) (stays (g3 .fine) (p4 .extends .kept) (has p3)) in
+    let g5 = next g4 p5 (make-used _ _ _) in
+    let p6 = stem-of (g5 .fine) (room g5 (omega arith) r) (stays s (g5 .extends .kept) (known l hl)) in
+    let g6 = next g5 p6 (make-used _ _ _) in
+    let p7 = fork-of (g6 .fine) (room g6 (omega arith) r) (has p6) (stays (g5 .fine) (p6 .extends .kept) (has p5)) in
+    let g7 = next g6 p7 (make-used _ _ _) in
+    (record { fine = g7 .fine; extends = g7 .extends; inside = p7 .inside; tree = p7 .tree }, omega (arith, g7 .used-is))
+  where
+    known : (i : ℕ) → i < t .used → Has t i (treeAt (t .words) i)
+    known i h = record { inside = h; tree = refl }
+
+clash : {A : Type 0} {e : Refusal} {v u : ℕ} → Refused e ≡ Node v u → A
+clash q = let n : _≡_ {A = ℕ} 0 1 = cc in absurd (omega arith)
+
+-- What a Label that gave node v says: both nodes were in use, the node has the labelled tree, and old nodes keep their trees.
+pub record Labels (w : List ℕ) (u f t v u′ : ℕ) : Type 0 where
+  pub entry : Entered true w u []
+  pub rule-in : f < u
+  pub label-in : t < u
+  pub places : Places (record { words = w; used = u }) (record { table = record { words = label w u f t .table; used = u′ }; node = v }) (labelled (treeAt w f) (treeAt w t))
+  pub used-is : u′ ≡ u + 7
+
+module _ (w : List ℕ) (u f t v u′ : ℕ) where
+  -- the outcome o, as far as the checks have come
+  Gives : Outcome → Type 0
+  Gives o =
+      o .answer ≡ Node v u′
+      → (f < u) × (t < u) × Places (record { words = w; used = u }) (record { table = record { words = o .table; used = u′ }; node = v }) (labelled (treeAt w f) (treeAt w t)) × (u′ ≡ u + 7)
+
+  from-nodes : Sound (record { words = w; used = u }) → f < u → t < u → u + 7 ≤ capacity w → Gives (placed (nodes (record { words = w; used = u }) f t))
+  unfolding placed Gives
+  from-nodes s hf ht h e =
+      let z : Table = record { words = w; used = u } in
+      let m = nodes z f t in
+      let x = labelled (treeAt w f) (treeAt w t) in
+      let p = nodes-place s f t hf ht h in
+      let a : m .node ≡ v = cc in
+      let b : m .table .used ≡ u′ = cc in (
+        hf,
+        ht,
+        subst (λ (k : ℕ). Places z (record { table = record { words = m .table .words; used = u′ }; node = k }) x) a
+            (subst (λ (k : ℕ). Places z (record { table = record { words = m .table .words; used = k }; node = m .node }) x) b (p .0)),
+        sym b ∙ p .1,
+      )
+
+  from-checks : Sound (record { words = w; used = u })
+      → Gives (cond (ltb f u && ltb t u) (cond (ltb (capacity w - u) 7) (whole (Refused Nodes) w) (placed (nodes (record { words = w; used = u }) f t))) (whole (Refused refusal.Node) w))
+  unfolding Gives
+  from-checks s = go (ltb f u && ltb t u) (ltb (capacity w - u) 7) refl refl
+    where
+      go : (x y : Bool) → (ltb f u && ltb t u) ≡ x → ltb (capacity w - u) 7 ≡ y
+          → Gives (cond x (cond y (whole (Refused Nodes) w) (placed (nodes (record { words = w; used = u }) f t))) (whole (Refused refusal.Node) w))
+      go false y h k = λ e. clash e
+      go true true h k = λ e. clash e
+      go true false h k =
+          from-nodes s (ltb-true f u (and-left (ltb f u) (ltb t u) h)) (ltb-true t u (and-right (ltb f u) (ltb t u) h))
+          (omega (arith, s .within, ltb-false (capacity w - u) 7 k))
+
+  pub label-gives : label w u f t .answer ≡ Node v u′ → Labels w u f t v u′
+  unfolding label Gives
+  label-gives = go (atEntry true w u []) refl
+    where
+      o : Outcome
+      o = cond (ltb f u && ltb t u) (cond (ltb (capacity w - u) 7) (whole (Refused Nodes) w) (placed (nodes (record { words = w; used = u }) f t))) (whole (Refused refusal.Node) w)
+
+      go : (c : Option Refusal) → atEntry true w u [] ≡ c → unless c (λ e. whole (Refused e) w) o .answer ≡ Node v u′ → Labels w u f t v u′
+      go (some e) c q = clash q
+      go none c q =
+          let n = entered true w u [] c in
+          let g = from-checks (n .table) q in
+          record { entry = n; rule-in = g .0; label-in = g .1; places = rw c (g .2); used-is = g .3 }
+
+-- no refusal of Label changes a table word
+pub label-refused : (w : List ℕ) (u f t : ℕ) (e : Refusal) → label w u f t .answer ≡ Refused e → label w u f t .table ≡ w
+unfolding label placed
+label-refused w u f t e = go (atEntry true w u []) (ltb f u && ltb t u) (ltb (capacity w - u) 7)
+  where
+    z : Outcome
+    z = placed (nodes (record { words = w; used = u }) f t)
+
+    go : (c : Option Refusal) (x y : Bool)
+        → unless c (λ e. whole (Refused e) w) (cond x (cond y (whole (Refused Nodes) w) z) (whole (Refused refusal.Node) w)) .answer ≡ Refused e
+        → unless c (λ e. whole (Refused e) w) (cond x (cond y (whole (Refused Nodes) w) z) (whole (Refused refusal.Node) w)) .table ≡ w
+    go (some c) x y q = refl
+    go none false y q = refl
+    go none true true q = refl
+    go none true false q = clash (sym q)

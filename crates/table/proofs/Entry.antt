@@ -1,0 +1,56 @@
+-- What the checks that every operation begins with say of the table, and what a stopped call leaves. Assumes nothing.
+use Prim.Native.Nat.{ℕ, _+_, _*_, _/_, _≤_, _<_}
+use mathlib.Core.Path.{_≡_, refl, sym, ap, _∙_}
+use mathlib.Core.Bool.{Bool, true, false, cond, _&&_}
+use mathlib.Core.List.{List}
+use mathlib.Core.Option.{Option, none, some}
+use native.Mathlib.Omega.{arith}
+use lib.ListN.{length, getD}
+use lib.Dec.{leb}
+use borrow.Author.Tests.{leb-true, le-leb}
+use Rattle.table.specs.Nodes.{Table, capacity, sound, Sound, cleared}
+use Rattle.table.specs.Outcome.{fits, atEntry}
+use Rattle.table.specs.declared.Refusal.{Refusal}
+use Rattle.table.specs.declared.Refusal.the-variants.{Limits, Broken}
+use Rattle.table.proofs.Words.{and-left, and-right, cleared-below, length-cleared}
+use Rattle.table.proofs.Trees.{Kept}
+
+-- What holds of table, count and stack where neither 1 nor 2 is met.
+pub record Entered (own : Bool) (w : List ℕ) (u : ℕ) (s : List ℕ) : Type 0 where
+  pub table : Sound (record { words = w; used = u })
+  pub stack : length s ≤ 65536
+  pub owned : own ≡ true
+
+pub entered : (own : Bool) (w : List ℕ) (u : ℕ) (s : List ℕ) → atEntry own w u s ≡ none → Entered own w u s
+unfolding atEntry fits
+entered own w u s = go (own && fits w u s) (sound w u) refl refl
+  where
+    go : (a b : Bool) → (own && fits w u s) ≡ a → sound w u ≡ b → cond a (cond b none (some Broken)) (some Limits) ≡ none → Entered own w u s
+    go true true p q e =
+        let f = and-right own (fits w u s) p in
+        let g = and-right (leb (length w) 131072) _ f in
+        record {
+          table = record {
+            short = leb-true (length w) 131072 (and-left (leb (length w) 131072) _ f);
+            within = leb-true u (capacity w) (and-right (leb (length s) 65536) _ g);
+            unbroken = q;
+          };
+          stack = leb-true (length s) 65536 (and-left (leb (length s) 65536) _ g);
+          owned = and-left own (fits w u s) p;
+        }
+    go true false p q e = let n : _≡_ {A = ℕ} 0 1 = cc in absurd (omega arith)
+    go false b p q e = let n : _≡_ {A = ℕ} 0 1 = cc in absurd (omega arith)
+
+pub enters : {own : Bool} {w : List ℕ} {u : ℕ} {s : List ℕ} → Entered own w u s → atEntry own w u s ≡ none
+unfolding atEntry fits
+enters {own} {w} {u} {s} e =
+    rw (e .owned, le-leb (length w) 131072 (e .table .short), le-leb (length s) 65536 (e .stack), le-leb u (capacity w) (e .table .within), e .table .unbroken)
+
+-- The words of the nodes made since the table was t are cleared, and `used` is as it was: all nodes of t are as they were.
+pub stopped-kept : {t z : Table} → Kept t z → z .used ≤ capacity (z .words) → Kept t (record { words = cleared (z .words) (t .used * 2) (z .used * 2); used = t .used })
+stopped-kept {t} {z} k h =
+    record {
+      up = omega arith;
+      same-length = length-cleared (z .words) (t .used * 2) (z .used * 2) (omega (arith, k .up)) (omega arith) ∙ k .same-length;
+      below = λ i l. cleared-below (z .words) (t .used * 2) (z .used * 2) i (omega (arith, k .up)) l ∙ k .below i l;
+    }

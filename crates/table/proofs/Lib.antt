@@ -1,0 +1,5 @@
+pub mod Words
+pub mod Trees
+pub mod Making
+pub mod Entry
+pub mod Laid
