@@ -3,3 +3,4 @@ pub mod Unique
 pub mod Size
 pub mod Rule
 pub mod Demand3
+pub mod Vectors

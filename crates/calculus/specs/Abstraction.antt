@@ -1,6 +1,5 @@
 -- Terms without abstraction, bracket abstraction, and the tree of a translated rule. Assumes nothing: these are definitions.
 use Prim.Native.Nat.{ℕ, zero, suc, _+_}
-use mathlib.Core.Path.{_≡_}
 use Rattle.calculus.specs.Tree.{Tree, stem, fork}
 use Rattle.calculus.specs.Term.{Term}
 

@@ -4,7 +4,6 @@ use mathlib.Core.List.{List, [], _∷_, reverse}
 use lib.ListN.{length, getD}
 use Rattle.calculus.specs.Tree.{Tree}
 use Rattle.calculus.specs.Rules.{Closed, tree, Eval, ApplyAll}
-use Rattle.calculus.specs.Rules
 use Rattle.calculus.specs.Term.{Term, bodyUnder}
 use Rattle.calculus.specs.Abstraction.{Combination, leaf, app, var, translate, ruleTree, leaves, nearest}
 

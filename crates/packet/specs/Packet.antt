@@ -1,7 +1,8 @@
 -- The fields of a packet (The packet). Assumes nothing: these are definitions.
-use Prim.Native.Nat.{ℕ, zero, suc, _+_, _*_}
+use Prim.Native.Nat.{ℕ, zero, suc, _+_, _*_, _/_, _%_, _≤_, _<_}
+use mathlib.Core.Path.{_≡_}
 use mathlib.Core.Bool.{Bool, true, false, cond, _&&_}
-use mathlib.Core.List.{List, [], _∷_}
+use mathlib.Core.List.{List, [], _∷_, _++_}
 use mathlib.Core.Option.{Option, none, some}
 use lib.ListN.{length, take, drop}
 use lib.Dec.{leb, eqb}
@@ -69,3 +70,26 @@ fromFields (some (f ∷ fs)) = cond (eqb (f .tag) 1) (afterRule (f .value) 8 fs)
 -- "Anything else, or more than 16,384 bytes, is 6."
 unfoldable pub packet : List ℕ → Option Packet
 packet l = cond (leb (length l) 16384) (fromFields (fields (length l) l)) none
+
+-- What follows says the same without a reader; the theorem `packet-exact` says that the reader above gives p exactly where IsPacket holds.
+
+-- a field's bytes
+unfoldable pub fieldBytes : ℕ → List ℕ → List ℕ
+fieldBytes tag v = tag ∷ (length v / 256) ∷ (length v % 256) ∷ v
+
+unfoldable pub argumentBytes : List (List ℕ) → List ℕ
+argumentBytes [] = []
+argumentBytes (v ∷ vs) = fieldBytes 2 v ++ argumentBytes vs
+
+-- the limit's field, or none and the default
+pub data IsLimit : List ℕ → ℕ → Type 0 where
+  named : (v : List ℕ) → length v ≡ 4 → highFirst 0 v ≤ 1000000 → IsLimit (fieldBytes 3 v) (highFirst 0 v)
+  default : IsLimit [] defaultLimit
+
+-- "First tag 1, a rule; then none to eight of tag 2, an argument's text; then at most one tag 3"
+pub record IsPacket (l : List ℕ) (p : Packet) : Type 0 where
+  pub end : List ℕ
+  pub bytes : l ≡ fieldBytes 1 (p .rule) ++ (argumentBytes (p .arguments) ++ end)
+  pub limit-is : IsLimit end (p .limit)
+  pub few : length (p .arguments) ≤ 8
+  pub short : length l ≤ 16384

@@ -1,0 +1,49 @@
+-- Worked examples of the definitions: what no theorem pins, and the example of document 01's section on the two runs. Assumes nothing.
+use Prim.Native.Nat.{ℕ}
+use mathlib.Core.Path.{_≡_, refl}
+use mathlib.Core.List.{List, [], _∷_}
+use mathlib.Core.Option.{Option, none, some}
+use Rattle.calculus.specs.Tree.{Tree, leaf, stem, fork}
+use Rattle.calculus.specs.Rules.{Apply, by-leaf, by-stem, by-drop, by-spread, by-triage, Eval, of-tree, of-app, ApplyAll, at-end, and-next}
+use Rattle.calculus.specs.Term.{Term, app, abs, var, parameters, bodyUnder}
+use Rattle.calculus.specs.Term
+use Rattle.calculus.specs.Bytes.{bytes, abstraction, application, argument, parse, whole, rule}
+use Rattle.calculus.specs.Abstraction.{bracket, translate, grown, treeOf, ruleTree, leaves, nearest}
+use Rattle.calculus.specs.Runs.{body, fill, Direct, Translated, L, X, difference}
+
+-- triage hands N its first branch first: 220100 on 0 gives 2010, which the other order would not
+pub triage-order : Apply (fork (fork leaf (stem leaf)) leaf) leaf (fork leaf (stem leaf)) 3
+triage-order = by-triage by-leaf by-stem
+
+-- spread applies the outcome of y to the outcome of p: 21100 on 10 gives 2102010
+pub spread-order : Apply (fork (stem (stem leaf)) leaf) (stem leaf) (fork (stem leaf) (fork leaf (stem leaf))) 4
+spread-order = by-spread by-leaf by-stem by-stem
+
+-- 02 01 00 03 00, λx.Δx: the function part of an application stands before its argument
+pub stem-rule : rule (2 ∷ 1 ∷ 0 ∷ 3 ∷ 0 ∷ []) ≡ some (abs (app Term.leaf (var 0)))
+unfolding rule whole parse argument application abstraction bytes
+stem-rule = refl
+
+pub stem-tree : ruleTree (abs (app Term.leaf (var 0))) ≡ fork (stem (fork (stem leaf) (stem leaf))) (fork leaf leaf)
+unfolding ruleTree translate bracket treeOf grown
+stem-tree = refl
+
+-- "For rule 02 02 03 01 with 0 alone the body is ΔΔx, L = 2, X = 1: the planner takes 2 steps to 200, the engine 10."
+abbrev first : Term
+first = abs (abs (var 1))
+
+pub first-rule : rule (2 ∷ 2 ∷ 3 ∷ 1 ∷ []) ≡ some first
+unfolding rule whole parse argument application abstraction bytes
+first-rule = refl
+
+pub first-counts : (parameters first ≡ 2) × (L first ≡ 2) × (X first ≡ 1) × (difference first ≡ 8)
+unfolding parameters L X difference body bodyUnder translate bracket leaves nearest
+first-counts = (refl, refl, refl, refl)
+
+pub first-direct : Direct first (leaf ∷ []) (fork leaf leaf) 2
+unfolding Direct fill body bodyUnder translate bracket
+first-direct = of-app (of-app of-tree of-tree by-leaf) of-tree by-stem
+
+pub first-translated : Translated first (leaf ∷ []) (fork leaf leaf) 10
+unfolding Translated ruleTree treeOf grown translate bracket
+first-translated = and-next (by-spread (by-spread by-drop by-drop by-leaf) (by-spread by-stem by-leaf by-drop) by-stem) at-end
