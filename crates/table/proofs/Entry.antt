@@ -9,11 +9,11 @@ use lib.ListN.{length, getD}
 use lib.Dec.{leb}
 use borrow.Author.Tests.{leb-true, le-leb}
 use Rattle.table.specs.Nodes.{Table, capacity, sound, Sound, cleared}
-use Rattle.table.specs.Outcome.{fits, atEntry}
+use Rattle.table.specs.Outcome.{Outcome, fits, atEntry, stopped, zeros}
 use Rattle.table.specs.declared.Refusal.{Refusal}
 use Rattle.table.specs.declared.Refusal.the-variants.{Limits, Broken}
-use Rattle.table.proofs.Words.{and-left, and-right, cleared-below, length-cleared}
-use Rattle.table.proofs.Trees.{Kept}
+use Rattle.table.proofs.Words.{and-left, and-right, cleared-below, cleared-inside, cleared-beyond, length-cleared}
+use Rattle.table.proofs.Trees.{Kept, Extends}
 
 -- What holds of table, count and stack where neither 1 nor 2 is met.
 pub record Entered (own : Bool) (w : List ℕ) (u : ℕ) (s : List ℕ) : Type 0 where
@@ -53,4 +53,34 @@ stopped-kept {t} {z} k h =
       up = omega arith;
       same-length = length-cleared (z .words) (t .used * 2) (z .used * 2) (omega (arith, k .up)) (omega arith) ∙ k .same-length;
       below = λ i l. cleared-below (z .words) (t .used * 2) (z .used * 2) i (omega (arith, k .up)) l ∙ k .below i l;
+    }
+
+-- 1 comes before 2, and each on its condition
+pub entry-limits : (own : Bool) (w : List ℕ) (u : ℕ) (s : List ℕ) → (own && fits w u s) ≡ false → atEntry own w u s ≡ some Limits
+unfolding atEntry
+entry-limits own w u s e = rw e
+
+pub entry-broken : (own : Bool) (w : List ℕ) (u : ℕ) (s : List ℕ) → (own && fits w u s) ≡ true → sound w u ≡ false → atEntry own w u s ≡ some Broken
+unfolding atEntry
+entry-broken own w u s e h = rw (e, h)
+
+-- "Numbers 7 to 10 set to 0 the words of the nodes made in the call and the whole stack": of a table that was t and stopped as z, every other word
+-- is as found.
+pub record Undone {A : Type 0} (t z : Table) (o : Outcome A) (s : List ℕ) : Type 0 where
+  pub same-length : length (o .table) ≡ length (t .words)
+  pub made-cleared : (i : ℕ) → t .used * 2 ≤ i → i < z .used * 2 → getD (o .table) i 0 ≡ 0
+  pub below : (i : ℕ) → i < t .used * 2 → getD (o .table) i 0 ≡ getD (t .words) i 0
+  pub beyond : (i : ℕ) → z .used * 2 ≤ i → getD (o .table) i 0 ≡ getD (t .words) i 0
+  pub stack : o .stack ≡ zeros s
+
+pub stopped-undone : {A : Type 0} {t z : Table} → Extends t z → z .used ≤ capacity (z .words) → (a : A) (s : List ℕ) → Undone t z (stopped a z (t .used) s) s
+unfolding stopped
+stopped-undone {t = t} {z = z} x h a s =
+    let k = stopped-kept (x .kept) h in
+    record {
+      same-length = k .same-length;
+      made-cleared = λ i l m. cleared-inside (z .words) (t .used * 2) (z .used * 2) i l m (omega arith);
+      below = k .below;
+      beyond = λ i l. cleared-beyond (z .words) (t .used * 2) (z .used * 2) i (omega (arith, x .kept .up)) l (omega arith) ∙ x .beyond i l;
+      stack = refl;
     }

@@ -3,3 +3,4 @@ pub mod Trees
 pub mod Making
 pub mod Entry
 pub mod Laid
+pub mod Vectors

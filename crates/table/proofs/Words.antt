@@ -5,7 +5,7 @@ use mathlib.Core.Bool.{Bool, true, false, cond, not, _&&_, _||_}
 use mathlib.Core.List.{List, [], _∷_, _++_, append-assoc, append-nil}
 use native.Mathlib.Omega.{arith}
 use native.Mathlib.Numerals.{add-one}
-use lib.ListN.{length, getD, set, take, drop, replicate, length-append, length-take, length-drop, length-set, length-replicate, take-append-drop, replicate-append-replicate, List·getD-append}
+use lib.ListN.{length, getD, set, take, drop, replicate, length-append, length-take, length-drop, length-set, length-replicate, getD-replicate, take-append-drop, replicate-append-replicate, List·getD-append}
 use lib.Seq.{drop-length, drop-cons, set-at, getD-set-same, getD-set-other, getD-take, getD-drop, getD-append-add, length-take-le}
 use lib.Dec.{ltb, leb, eqb}
 use borrow.Author.Tests.{ltb-false, eqb-true, eqb-false, le-ltb, eq-eqb, ne-eqb, not-true}
@@ -125,3 +125,25 @@ cleared-all w =
 pub cleared-below : (w : List ℕ) (a b i : ℕ) → a ≤ length w → i < a → getD (cleared w a b) i 0 ≡ getD w i 0
 cleared-below w a b i h k =
     List·getD-append (take a w) (replicate (b - a) 0 ++ drop b w) 0 i (simp length-take (omega arith)) ∙ getD-take a w i 0 k
+
+pub cleared-inside : (w : List ℕ) (a b i : ℕ) → a ≤ i → i < b → b ≤ length w → getD (cleared w a b) i 0 ≡ 0
+cleared-inside w a b i h k l =
+    let n : length (take a w) ≡ a = length-take-le a w (omega arith) in
+    let e : length (take a w) + (i - a) ≡ i = omega arith in
+    ap (λ (j : ℕ). getD (cleared w a b) j 0) (sym e)
+    ∙ getD-append-add (take a w) (replicate (b - a) 0 ++ drop b w) (i - a) 0
+    ∙ List·getD-append (replicate (b - a) 0) (drop b w) 0 (i - a) (simp length-replicate (omega arith))
+    ∙ getD-replicate (b - a) (i - a) 0 0 (omega arith)
+
+pub cleared-beyond : (w : List ℕ) (a b i : ℕ) → a ≤ b → b ≤ i → b ≤ length w → getD (cleared w a b) i 0 ≡ getD w i 0
+cleared-beyond w a b i h k l =
+    let n : length (take a w) ≡ a = length-take-le a w (omega arith) in
+    let z : List ℕ = replicate (b - a) 0 in
+    let m : length z ≡ b - a = length-replicate (b - a) 0 in
+    let e : length (take a w) + (length z + (i - b)) ≡ i = omega arith in
+    let f : b + (i - b) ≡ i = omega arith in
+    ap (λ (j : ℕ). getD (cleared w a b) j 0) (sym e)
+    ∙ getD-append-add (take a w) (replicate (b - a) 0 ++ drop b w) (length z + (i - b)) 0
+    ∙ getD-append-add z (drop b w) (i - b) 0
+    ∙ getD-drop b w (i - b) 0
+    ∙ ap (λ (j : ℕ). getD w j 0) f

@@ -1,0 +1,19 @@
+-- Worked examples of the definitions that no theorem of this crate pins: the refusals' numbers, the order of the nodes. Assumes nothing.
+use Prim.Native.Nat.{ℕ}
+use mathlib.Core.Path.{_≡_, refl}
+use mathlib.Core.List.{List, [], _∷_, map}
+use lib.ListN.{replicate}
+use Rattle.calculus.specs.Tree.{Tree, leaf, stem, fork}
+use Rattle.table.specs.Nodes.{Table, make, lay}
+use Rattle.table.specs.Refusal.{number}
+use Rattle.table.specs.declared.Refusal.the-variants.{Limits, Broken, Node, Text, Rule, Packet, Steps, Nodes, Frames, Out}
+
+-- the refusals in the order of document 01's numbers
+pub numbers : map number (Limits ∷ Broken ∷ Node ∷ Text ∷ Rule ∷ Packet ∷ Steps ∷ Nodes ∷ Frames ∷ Out ∷ []) ≡ 1 ∷ 2 ∷ 3 ∷ 4 ∷ 5 ∷ 6 ∷ 7 ∷ 8 ∷ 9 ∷ 10 ∷ []
+unfolding number
+numbers = refl
+
+-- 2010 laid out from node 1 on: the leaf and the stem of the second branch, the leaf of the first, then their fork
+pub order : lay (record { words = replicate 10 0; used = 1 }) (fork leaf (stem leaf)) .table .words ≡ 0 ∷ 0 ∷ 0 ∷ 0 ∷ 2 ∷ 0 ∷ 0 ∷ 0 ∷ 4 ∷ 3 ∷ []
+unfolding lay make
+order = refl
