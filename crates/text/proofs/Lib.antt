@@ -1,0 +1,4 @@
+pub mod OneText
+pub mod Reading
+pub mod Writes
+pub mod RoundTrip
