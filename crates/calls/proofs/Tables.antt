@@ -1,8 +1,7 @@
 -- What a list of calls keeps of the table, refused calls included. Assumes nothing.
 use Prim.Native.Nat.{ℕ, _+_, _*_, _≤_, _<_}
 use mathlib.Core.Path.{_≡_, refl, sym, ap, ap₂, _∙_, subst}
-use mathlib.Core.List.{List, [], _∷_, _++_}
-use mathlib.Core.Option.{some}
+use mathlib.Core.List.{List, [], _∷_}
 use native.Mathlib.Omega.{arith}
 use lib.ListN.{length}
 use Rattle.calculus.specs.Tree.{Tree}
@@ -15,16 +14,15 @@ use Rattle.table.specs.declared.Made.the-variants as made
 use Rattle.table.proofs.Words.{sound-same}
 use Rattle.table.proofs.Trees.{Kept, kept-refl, kept-trans}
 use Rattle.table.proofs.Making.{Places, Has, has, stays}
-use Rattle.text.specs.Text.{treeOf}
 use Rattle.text.specs.Read as text
-use Rattle.text.proofs.Reads.{Reads, read-gives, read-refused}
+use Rattle.text.proofs.Reading.{Reads, read-gives, read-refused}
 use Rattle.term.specs.Translate as term
 use Rattle.term.proofs.Translates.{Translates, translate-gives, translate-refused}
 use Rattle.machine.specs.Apply as machine
 use Rattle.machine.specs.declared.Applied.{Applied as Answer}
 use Rattle.machine.specs.declared.Applied.the-variants as applied
 use Rattle.machine.proofs.Follows.{Follows, apply-follows, apply-refused}
-use Rattle.calls.specs.Calls.{Call, read, translate, apply, left, leftBy, Gave, reads}
+use Rattle.calls.specs.Calls.{Call, read, translate, apply, left, leftBy}
 
 -- z has all nodes of t as they were, and is sound where t is
 pub record Goes (t z : Table) : Type 0 where
@@ -46,6 +44,60 @@ kept-sound {t} {z} k e s =
       unbroken = ap (sound (z .words)) e ∙ sound-same (t .words) (z .words) (t .used) (k .below) ∙ s .unbroken;
     }
 
--- what an operation that makes nodes leaves, by its answer
-made-left : Outcome Made → ℕ → Table
-made-left o u = record { words = o .table; used = madeNumbers u (o .answer) .used }
+-- a node that was placed, in a table that is sound then
+placed-goes : {t z : Table} {v : ℕ} {x : Tree} → Places t (record { table = z; node = v }) x → Goes t z
+placed-goes p = record { kept = p .extends .kept; sound-too = λ s. p .fine }
+
+-- a refused call: `used` is as it was
+refused-goes : {t : Table} {w : List ℕ} → Kept t (record { words = w; used = t .used }) → Goes t (record { words = w; used = t .used })
+refused-goes k = record { kept = k; sound-too = kept-sound k refl }
+
+same-words : {t : Table} {w : List ℕ} → w ≡ t .words → Kept t (record { words = w; used = t .used })
+same-words {t} e = rw e (kept-refl t)
+
+-- what a call leaves where its answer is known
+pub left-read : (s l : List ℕ) (t : Table) {v u : ℕ} → text.read (t .words) (t .used) s l .answer ≡ made.Node v u
+    → left (read s l) t ≡ record { words = text.read (t .words) (t .used) s l .table; used = u }
+unfolding left madeNumbers
+left-read s l t e = rw e
+
+pub left-translate : (s b : List ℕ) (t : Table) {v u : ℕ} → term.translate (t .words) (t .used) s b .answer ≡ made.Node v u
+    → left (translate s b) t ≡ record { words = term.translate (t .words) (t .used) s b .table; used = u }
+unfolding left madeNumbers
+left-translate s b t e = rw e
+
+pub left-apply : (s : List ℕ) (f n limit : ℕ) (t : Table) {v u j : ℕ} → machine.apply (t .words) (t .used) s f n limit .answer ≡ applied.Node v u j
+    → left (apply s f n limit) t ≡ record { words = machine.apply (t .words) (t .used) s f n limit .table; used = u }
+unfolding left machine.appliedNumbers
+left-apply s f n limit t e = rw e
+
+-- "Each call gets the words and the used that the last one left": no call, refused or not, takes a node's tree away.
+pub left-goes : (c : Call) (t : Table) → Goes t (left c t)
+unfolding left madeNumbers machine.appliedNumbers refusedNumbers
+left-goes (read s l) t = go (text.read (t .words) (t .used) s l .answer) refl
+  where
+    go : (a : Made) → text.read (t .words) (t .used) s l .answer ≡ a → Goes t (record { words = text.read (t .words) (t .used) s l .table; used = madeNumbers (t .used) a .used })
+    go (made.Node v u) e = placed-goes (read-gives (t .words) (t .used) s l v u e .places)
+    go (made.Refused r) e = refused-goes (same-words (read-refused (t .words) (t .used) s l r e))
+left-goes (translate s b) t = go (term.translate (t .words) (t .used) s b .answer) refl
+  where
+    go : (a : Made) → term.translate (t .words) (t .used) s b .answer ≡ a → Goes t (record { words = term.translate (t .words) (t .used) s b .table; used = madeNumbers (t .used) a .used })
+    go (made.Node v u) e = placed-goes (translate-gives (t .words) (t .used) s b v u e .lays .places)
+    go (made.Refused r) e = refused-goes (same-words (translate-refused (t .words) (t .used) s b r e))
+left-goes (apply s f n limit) t = go (machine.apply (t .words) (t .used) s f n limit .answer) refl
+  where
+    go : (a : Answer) → machine.apply (t .words) (t .used) s f n limit .answer ≡ a
+        → Goes t (record { words = machine.apply (t .words) (t .used) s f n limit .table; used = machine.appliedNumbers (t .used) a .used })
+    go (applied.Node v u j) e =
+        let q = apply-follows (t .words) (t .used) s f n limit v u j e in
+        record { kept = q .extends .kept; sound-too = λ x. q .fine }
+    go (applied.Refused r) e = refused-goes (apply-refused (t .words) (t .used) s f n limit r e)
+
+pub leftBy-goes : (cs : List Call) (t : Table) → Goes t (leftBy cs t)
+unfolding leftBy
+leftBy-goes [] t = goes-refl t
+leftBy-goes (c ∷ cs) t = goes-trans (left-goes c t) (leftBy-goes cs (left c t))
+
+-- a node in use keeps its tree through a list of calls
+pub stays-by : (cs : List Call) {t : Table} {i : ℕ} {x : Tree} → Sound t → Has t i x → Has (leftBy cs t) i x
+stays-by cs {t} s h = stays s (leftBy-goes cs t .kept) h

@@ -1,0 +1,97 @@
+-- Demand 3 in lists of Read, Translate and Apply calls on one table, whole. Assumes nothing.
+use Prim.Native.Nat.{ℕ, _+_, _*_, _≤_, _<_}
+use mathlib.Core.Path.{_≡_, refl, sym, ap, _∙_, subst}
+use mathlib.Core.List.{List, [], _∷_, _++_}
+use mathlib.Core.Option.{Option, none, some}
+use native.Mathlib.Omega.{arith}
+use lib.ListN.{length}
+use Rattle.calculus.specs.Tree.{Tree}
+use Rattle.calculus.specs.Rules.{Apply, ApplyAll}
+use Rattle.calculus.specs.Rules as rules
+use Rattle.calculus.specs.Term.{Term, parameters}
+use Rattle.calculus.specs.Bytes.{rule}
+use Rattle.calculus.specs.Abstraction.{ruleTree}
+use Rattle.calculus.specs.Runs.{Direct, Translated, difference}
+use Rattle.calculus.proofs.Rule.{rule-exact}
+use Rattle.calculus.proofs.Demand3.{demand-3}
+use Rattle.table.specs.Nodes.{Table, Sound, treeAt}
+use Rattle.table.proofs.Trees.{kept-tree}
+use Rattle.table.proofs.Making.{Has, stays}
+use Rattle.text.specs.Text.{treeOf}
+use Rattle.text.proofs.Reading.{read-gives}
+use Rattle.term.proofs.Translates.{translate-gives}
+use Rattle.machine.proofs.Follows.{apply-follows}
+use Rattle.calls.specs.Calls.{Call, left, leftBy, Applied, at-end, applies, Completed, translates, Gave, reads}
+use Rattle.calls.specs.Calls as calls
+use Rattle.calls.proofs.Tables.{left-goes, left-read, left-translate, left-apply, stays-by}
+
+-- the same trees by another name
+applies-as : {f g r : Tree} {args : List Tree} {k : ℕ} → f ≡ g → ApplyAll f args r k → ApplyAll g args r k
+applies-as {r = r} {args = args} {k = k} e a = subst (λ (x : Tree). ApplyAll x args r k) e a
+
+-- Apply calls one after another, each on the node last given, are applications one after another by the five rules.
+applied-all : {cs : List Call} {t : Table} {f : ℕ} {args : List Tree} {r : Tree} {k : ℕ} → Sound t → f < t .used → Applied cs t f args r k
+    → ApplyAll (treeAt (t .words) f) args r k
+applied-all s h at-end = rules.at-end
+applied-all {t = t} {f = f} s h (Applied.other {c = c} a) =
+    let g = left-goes c t in
+    applies-as (kept-tree s (g .kept) f h) (applied-all (g .sound-too s) (omega (arith, g .kept .up)) a)
+applied-all {t = t} s h (applies {s = st} {f = f} {n = n} {limit = limit} {v = v} {u = u} {j = j} e a) =
+    let q = apply-follows (t .words) (t .used) st f n limit v u j e in
+    let z = left-apply st f n limit t e in
+    rules.and-next (q .applies) (applies-as (ap (λ (y : Table). treeAt (y .words) v) z) (applied-all (rw z (q .fine)) (rw z (q .inside)) a))
+
+-- What is claimed of a run that is completed in a list of calls: of the rule b, on the trees args, with the tree r of the last node given, in k
+-- steps. "The planner's run then has a tree, and it is this one; for n = 1 the steps that Apply returned are the planner's plus 2L + 5X − 1."
+-- (The two runs of demand 3)
+pub record Claim (b : List ℕ) (args : List Tree) (r : Tree) (k : ℕ) : Type 0 where
+  pub term : Term
+  pub is-rule : rule b ≡ some term
+  pub direct : 1 ≤ length args → length args ≤ parameters term → (j : ℕ) × Direct term args r j
+  pub steps : length args ≡ 1 → (j : ℕ) → Direct term args r j → k ≡ j + difference term
+
+-- a rule has a leading parameter
+leads : (b : List ℕ) {t : Term} → rule b ≡ some t → 1 ≤ parameters t
+unfolding parameters
+leads b {t} e = let r = rule-exact b t .0 e in rw (r .begins) (omega arith)
+
+claim : {b : List ℕ} {args : List Tree} {r : Tree} {k : ℕ} → (t : Term) → rule b ≡ some t → ApplyAll (ruleTree t) args r k → Claim b args r k
+unfolding Translated
+claim {b} {args} {r} {k} t e a =
+    record {
+      term = t;
+      is-rule = e;
+      direct = λ h l. demand-3 b t e args h l r .0 .0 (k, a);
+      steps = λ o j d. demand-3 b t e args (omega arith) (omega (arith, leads b e)) r .1 k j o a d;
+    }
+
+completed : {cs : List Call} {t : Table} {b : List ℕ} {args : List Tree} {r : Tree} {k : ℕ} → Completed cs t b args r k → Claim b args r k
+completed (Completed.other c) = completed c
+completed (translates {s = s} {b = b} {v = v} {u = u} {t = t} e a) =
+    let q = translate-gives (t .words) (t .used) s b v u e in
+    let z = left-translate s b t e in
+    let p = q .lays .places in
+    claim (q .term) (q .is-rule)
+    (applies-as (ap (λ (y : Table). treeAt (y .words) v) z ∙ p .tree) (applied-all (rw z (p .fine)) (rw z (p .inside)) a))
+
+-- a node that a Read gave keeps the tree of its text
+given : {cs : List Call} {t : Table} {v : ℕ} {x : Tree} → Gave cs t v x → treeAt (leftBy cs t .words) v ≡ x
+unfolding leftBy
+given (Gave.other g) = given g
+given (reads {s = s} {l = l} {v = v} {u = u} {cs = cs} {t = t} {x = x} e w) =
+    let q = read-gives (t .words) (t .used) s l v u e in
+    let p = q .places in
+    let y : q .tree ≡ x = cc (q .whole-text) in
+    let h : Has (left (calls.read s l) t) v x = rw (left-read s l t e) (record { inside = p .inside; tree = p .tree ∙ y }) in
+    stays-by cs (rw (left-read s l t e) (p .fine)) h .tree
+
+-- "That is a single claim about the whole list, and not one for each call." `completed`: of every run that is completed in the list, its
+-- arguments being the trees of the nodes applied to, each as its Apply found it. `reads-stay`: after any beginning of the list, a node that a
+-- Read in it gave has the tree of that Read's text, so this is the argument where such a node is applied to.
+pub record ListClaim (cs : List Call) (t : Table) : Type 0 where
+  pub of-runs : (b : List ℕ) (args : List Tree) (r : Tree) (k : ℕ) → Completed cs t b args r k → Claim b args r k
+  pub reads-stay : (before after : List Call) → cs ≡ before ++ after → (v : ℕ) (x : Tree) → Gave before t v x → treeAt (leftBy before t .words) v ≡ x
+
+-- Demand 3 in lists of calls: from any words and any used, refused calls included.
+pub demand-3-in-lists : (cs : List Call) (t : Table) → ListClaim cs t
+demand-3-in-lists cs t = record { of-runs = λ b args r k c. completed c; reads-stay = λ before after e v x g. given g }
