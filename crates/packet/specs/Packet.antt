@@ -71,7 +71,7 @@ fromFields (some (f ∷ fs)) = cond (eqb (f .tag) 1) (afterRule (f .value) 8 fs)
 unfoldable pub packet : List ℕ → Option Packet
 packet l = cond (leb (length l) 16384) (fromFields (fields (length l) l)) none
 
--- What follows says the same without a reader; the theorem `packet-exact` says that the reader above gives p exactly where IsPacket holds.
+-- What follows says the same without a reader; the theorem `packet-exact` says that of bytes the reader above gives p exactly where IsPacket holds.
 
 -- a field's bytes
 unfoldable pub fieldBytes : ℕ → List ℕ → List ℕ
