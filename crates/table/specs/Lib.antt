@@ -1,3 +1,4 @@
 pub mod Refusal
 pub mod Nodes
 pub mod Outcome
+pub mod Code

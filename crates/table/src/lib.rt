@@ -1,4 +1,11 @@
-// A lent table's words as nodes, and the refusals. The definitions are in specs/.
+// A lent table's words as nodes, and the refusals: the one place that reads words, looks for broken nodes, makes nodes and clears words.
+// The definitions are in specs/, the laws that callers cite in proofs/.
+ghost use mathlib.Core.Path.{_≡_};
+ghost use Prim.Native.Nat.{_+_, _*_, _≤_, _<_};
+ghost use lib.ListN.{length, getD};
+ghost use Rattle.table.specs.Nodes.{broken, sound, make, cleared};
+ghost use Rattle.table.specs.Outcome.{atEntry};
+ghost use Rattle.table.specs.Code.{placedBy, refusalOf};
 
 // Why an operation was refused. `specs/Refusal.antt` gives the number of each.
 pub enum Refusal {
@@ -28,4 +35,103 @@ pub enum Refusal {
 pub enum Made {
     Node { node: usize, used: usize },
     Refused(Refusal),
+}
+
+// What the checks that every operation begins with say.
+pub enum Checked {
+    Sound,
+    Refused(Refusal),
+}
+
+// A node that was made, and the count of used nodes with it.
+pub struct NewNode {
+    pub node: usize,
+    pub used: usize,
+}
+
+// A lent word as a number.
+pub fn word(words: &[u32], i: usize) -> usize
+    requires { ⌜ i < length (now words) ⌝ }
+    ensures { λ r. ⌜ (r ≡ getD (now (words .entry)) i 0) × (r < 4294967296) ⌝ }
+{
+    words[i] as usize
+}
+
+// Whether node i with the branch words a and b is broken.
+fn is_broken(i: usize, a: usize, b: usize) -> bool
+    ensures { λ r. ⌜ r ≡ broken i a b ⌝ }
+{
+    if a == 0 {
+        return b != 0;
+    }
+    if i < a {
+        return true;
+    }
+    i < b
+}
+
+// Whether no node below used is broken.
+fn is_sound(table: &[u32], used: usize) -> bool
+    requires { ⌜ used * 2 ≤ length (now table) ⌝ }
+    ensures { λ r. ⌜ r ≡ sound (now (table .entry)) used ⌝ }
+{
+    let mut i = used;
+    while 0 < i {
+        let k = i - 1;
+        let a = word(table, k * 2);
+        let b = word(table, k * 2 + 1);
+        if is_broken(k, a, b) {
+            return false;
+        }
+        i = k;
+    }
+    true
+}
+
+// The checks that every operation begins with: 1, then 2. `own` is the operation's own part of 1.
+pub fn check(own: bool, table: &[u32], used: usize, stack: &[u32]) -> Checked
+    ensures { λ r. ⌜ refusalOf r ≡ atEntry own (now (table .entry)) used (now (stack .entry)) ⌝ }
+{
+    if !own {
+        return Checked::Refused(Refusal::Limits);
+    }
+    if 131072 < table.len() {
+        return Checked::Refused(Refusal::Limits);
+    }
+    if 65536 < stack.len() {
+        return Checked::Refused(Refusal::Limits);
+    }
+    if table.len() / 2 < used {
+        return Checked::Refused(Refusal::Limits);
+    }
+    if is_sound(table, used) {
+        Checked::Sound
+    } else {
+        Checked::Refused(Refusal::Broken)
+    }
+}
+
+// The next node, with the branch words a and b.
+pub fn new_node(table: &mut [u32], used: usize, a: usize, b: usize) -> NewNode
+    requires { ⌜ (used * 2 + 1 < length (now table)) × (a < 4294967296) × (b < 4294967296) ⌝ }
+    ensures { λ r. ⌜ placedBy r (now (table .exit)) ≡ make (record { words = now (table .entry); used = used }) a b ⌝ }
+{
+    table[used * 2] = a as u32;
+    table[used * 2 + 1] = b as u32;
+    NewNode {
+        node: used,
+        used: used + 1,
+    }
+}
+
+// Sets the words from index a up to b to 0.
+pub fn clear(words: &mut [u32], a: usize, b: usize)
+    requires { ⌜ (a ≤ b) × (b ≤ length (now words)) ⌝ }
+    ensures { λ _. ⌜ now (words .exit) ≡ cleared (now (words .entry)) a b ⌝ }
+{
+    let mut i = a;
+    while i < b {
+        words[i] = 0;
+        i += 1;
+    }
 }
