@@ -147,3 +147,7 @@ cleared-beyond w a b i h k l =
     ∙ getD-append-add z (drop b w) (i - b) 0
     ∙ getD-drop b w (i - b) 0
     ∙ ap (λ (j : ℕ). getD w j 0) f
+
+-- a lent stack that was written meanwhile, and is cleared whole
+pub cleared-zeros : (s z : List ℕ) (n : ℕ) → length s ≡ length z → n ≡ length z → cleared s 0 n ≡ replicate (length z) 0
+cleared-zeros s z n a b = ap (cleared s 0) (b ∙ sym a) ∙ cleared-all s ∙ ap (λ (k : ℕ). replicate k 0) a

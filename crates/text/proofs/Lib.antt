@@ -3,3 +3,6 @@ pub mod Reading
 pub mod Writes
 pub mod RoundTrip
 pub mod Vectors
+pub mod Scanning
+pub mod Laying
+pub mod ReadWays
