@@ -9,6 +9,7 @@ use lib.ListN.{length, length-append}
 use lib.Dec.{eqb}
 use borrow.Author.Tests.{eqb-true}
 use Rattle.calculus.specs.Tree.{Tree, leaf, stem, fork, size}
+use Rattle.text.specs.Code.{texts}
 use Rattle.text.specs.Text.{text, takeLeaf, takeStem, takeFork, takeDigit, pending, single, treeOf}
 
 -- "Its text is one ASCII digit a node, parent before branches, first branch before second": taken last to first, the digits of a tree's text leave
@@ -27,11 +28,6 @@ text-read t = ap (λ (l : List ℕ). single (pending l)) (sym (append-nil (text 
 -- No two trees have one text.
 pub text-unique : (t u : Tree) → text t ≡ text u → t ≡ u
 text-unique t u e = cc (text-read t, text-read u)
-
--- the texts of trees, one after another
-unfoldable pub texts : List Tree → List ℕ
-texts [] = []
-texts (t ∷ ts) = text t ++ texts ts
 
 -- What follows where `cc` finds two constructors said to be equal: it proves 0 ≡ 1 from them.
 pub zero-one : {A : Type 0} → _≡_ {A = ℕ} 0 1 → A
