@@ -1,2 +1,3 @@
 pub mod Labelled
 pub mod Labels
+pub mod Ways

@@ -1,1 +1,60 @@
-// Label: a rule's tree with a label tree in it. The definitions are in specs/.
+// Label: a rule's tree with a label tree in it. The definitions are in specs/, the laws that callers cite in proofs/.
+ghost use mathlib.Core.Path.{_≡_};
+ghost use Prim.Native.Nat.{_+_, _≤_, _<_};
+ghost use lib.ListN.{length};
+ghost use Rattle.table.specs.Nodes.{capacity};
+ghost use Rattle.table.specs.Code.{placedBy};
+ghost use Rattle.label.specs.Label.{whole};
+ghost use Rattle.label.specs.Label as labelling;
+ghost use Rattle.label.specs.Code.{constantNodes, labelNodes};
+use table::Checked;
+use table::Made;
+use table::NewNode;
+use table::Refusal;
+
+// The nodes of KK: a leaf, its stem, and the fork of these.
+fn make_constant(table: &mut [u32], used: usize) -> NewNode
+    requires { ⌜ (used + 3 ≤ capacity (now table)) × (length (now table) ≤ 131072) ⌝ }
+    ensures { λ r. ⌜ placedBy r (now (table .exit)) ≡ constantNodes (record { words = now (table .entry); used = used }) ⌝ }
+{
+    let n1 = table::new_node(table, used, 0, 0);
+    let n2 = table::new_node(table, n1.used, n1.node + 1, 0);
+    table::new_node(table, n2.used, n1.node + 1, n2.node + 1)
+}
+
+// The nodes of the labelled tree around KK at node k: the stem of the rule, its fork with KK, the stem of the label, its fork with that.
+fn make_label(table: &mut [u32], used: usize, k: usize, rule: usize, label: usize) -> NewNode
+    requires { ⌜ (used + 4 ≤ capacity (now table)) × (length (now table) ≤ 131072) × (k < used) × (rule < used) × (label < used) ⌝ }
+    ensures { λ r. ⌜ placedBy r (now (table .exit)) ≡ labelNodes (record { words = now (table .entry); used = used }) k rule label ⌝ }
+{
+    let n4 = table::new_node(table, used, rule + 1, 0);
+    let n5 = table::new_node(table, n4.used, n4.node + 1, k + 1);
+    let n6 = table::new_node(table, n5.used, label + 1, 0);
+    table::new_node(table, n6.used, n6.node + 1, n5.node + 1)
+}
+
+// Labels the rule at a node with the tree of another node.
+pub fn label(table: &mut [u32], used: usize, rule: usize, label: usize) -> Made
+    ensures { λ r. ⌜ whole r (now (table .exit)) ≡ labelling.label (now (table .entry)) used rule label ⌝ }
+{
+    let none: [u32; 0] = [];
+    let checked = table::check(true, table, used, &none);
+    if let Checked::Refused(e) = checked {
+        return Made::Refused(e);
+    }
+    if used <= rule {
+        return Made::Refused(Refusal::Node);
+    }
+    if used <= label {
+        return Made::Refused(Refusal::Node);
+    }
+    if table.len() / 2 - used < 7 {
+        return Made::Refused(Refusal::Nodes);
+    }
+    let third = make_constant(table, used);
+    let last = make_label(table, third.used, third.node, rule, label);
+    Made::Node {
+        node: last.node,
+        used: last.used,
+    }
+}

@@ -152,3 +152,7 @@ lay-places {t} s (fork p q) h =
     further (further x z)
     (fork-of (z .fine) (omega (arith, lay-used t q, lay-used (m .table) p, x .extends .kept .same-length, z .extends .kept .same-length))
     (has z) (stays (x .fine) (z .extends .kept) (has x)))
+
+-- the numbers of a node that is known to be made
+pub made-numbers : {m : Placed} (t : Table) (a b : ℕ) → m ≡ make t a b → (m .node ≡ t .used) × (m .table .used ≡ t .used + 1)
+made-numbers t a b e = (ap (λ (z : Placed). z .node) e ∙ make-node t a b, ap (λ (z : Placed). z .table .used) e ∙ make-used t a b)

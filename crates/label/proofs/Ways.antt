@@ -1,0 +1,63 @@
+-- Laws of Label's nodes and of its outcome, one for each way that its code goes. Assumes nothing.
+use Prim.Native.Nat.{ℕ, _+_, _-_, _*_, _/_, _≤_, _<_}
+use mathlib.Core.Path.{_≡_, refl, sym, ap, _∙_}
+use mathlib.Core.Bool.{true}
+use mathlib.Core.List.{List, []}
+use mathlib.Core.Option.{none, some}
+use native.Mathlib.Omega.{arith}
+use borrow.Author.Tests.{lt-ltb, le-ltb}
+use Rattle.table.specs.Nodes.{Table, Placed, capacity, make}
+use Rattle.table.specs.Outcome.{atEntry}
+use Rattle.table.specs.declared.Refusal.{Refusal}
+use Rattle.table.specs.declared.Refusal.the-variants.{Nodes}
+use Rattle.table.specs.declared.Refusal.the-variants as refusal
+use Rattle.table.specs.declared.Made.the-variants.{Node, Refused}
+use Rattle.label.specs.Label.{whole, nodes, placed, label}
+use Rattle.label.specs.Code.{constantNodes, labelNodes}
+
+-- nodes made one after another
+pub constant-by : (t : Table) {n1 n2 n3 : Placed} → n1 ≡ make t 0 0 → n2 ≡ make (n1 .table) (n1 .node + 1) 0 → n3 ≡ make (n2 .table) (n1 .node + 1) (n2 .node + 1)
+    → n3 ≡ constantNodes t
+unfolding constantNodes
+constant-by t a b c = c ∙ rw (b, a)
+
+pub label-by : (t : Table) {n4 n5 n6 n7 : Placed} (k f l : ℕ) → n4 ≡ make t (f + 1) 0 → n5 ≡ make (n4 .table) (n4 .node + 1) (k + 1) → n6 ≡ make (n5 .table) (l + 1) 0
+    → n7 ≡ make (n6 .table) (n6 .node + 1) (n5 .node + 1) → n7 ≡ labelNodes t k f l
+unfolding labelNodes
+label-by t k f l a b c d = d ∙ rw (c, b, a)
+
+-- both halves are Label's nodes
+pub nodes-by : (t : Table) {m n : Placed} (f l : ℕ) → m ≡ constantNodes t → n ≡ labelNodes (m .table) (m .node) f l → n ≡ nodes t f l
+unfolding nodes constantNodes labelNodes
+nodes-by t f l a b = b ∙ rw a
+
+-- the first half's numbers
+pub constant-numbers : (t : Table) {m : Placed} → m ≡ constantNodes t → (m .node ≡ t .used + 2) × (m .table .used ≡ t .used + 3)
+unfolding constantNodes make
+constant-numbers t e = (ap (λ (z : Placed). z .node) e ∙ omega arith, ap (λ (z : Placed). z .table .used) e ∙ omega arith)
+
+-- the checks
+module _ (w : List ℕ) (u f t : ℕ) where
+  pub refused-entry : {e : Refusal} → some e ≡ atEntry true w u [] → whole (Refused e) w ≡ label w u f t
+  unfolding label
+  refused-entry q = rw (← q)
+
+  module _ (q : none ≡ atEntry true w u []) where
+    pub no-rule : u ≤ f → whole (Refused refusal.Node) w ≡ label w u f t
+    unfolding label
+    no-rule h = rw (← q, le-ltb f u h)
+
+    module _ (h : f < u) where
+      pub no-label : u ≤ t → whole (Refused refusal.Node) w ≡ label w u f t
+      unfolding label
+      no-label k = rw (← q, lt-ltb f u h, le-ltb t u k)
+
+      module _ (k : t < u) where
+        pub no-nodes : capacity w - u < 7 → whole (Refused Nodes) w ≡ label w u f t
+        unfolding label
+        no-nodes l = rw (← q, lt-ltb f u h, lt-ltb t u k, lt-ltb (capacity w - u) 7 l)
+
+        pub is-labelled : 7 ≤ capacity w - u → {m : Placed} → m ≡ nodes (record { words = w; used = u }) f t
+            → whole (Node (m .node) (m .table .used)) (m .table .words) ≡ label w u f t
+        unfolding label placed
+        is-labelled l e = rw (← q, lt-ltb f u h, lt-ltb t u k, le-ltb (capacity w - u) 7 l, e)
