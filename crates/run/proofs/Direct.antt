@@ -29,6 +29,7 @@ use Rattle.run.proofs.Refused.{refuses-with}
 
 -- What is claimed of a Run that writes n digits after k steps and leaves u nodes in use.
 pub record Ran (w s o l : List ℕ) (k u n : ℕ) : Type 0 where
+  pub numbers : ranNumbers (run w s o l .answer) ≡ record { refusal = 0; node = 0; used = u; steps = k; digits = n }
   -- the packet, its rule's term, its arguments' trees in order
   pub sent : Packet
   pub is-packet : packet l ≡ some sent
@@ -73,7 +74,7 @@ module _ (w s o l : List ℕ) (k u n : ℕ) where
   -- "Run a packet": where Run writes a text, with one argument or more it is that of the tree that the direct run of the packet's rule on its arguments
   -- ends in; with one argument the steps are the direct run's plus 2L + 5X − 1.
   pub run-direct : run w s o l .answer ≡ Text k u n → Ran w s o l k u n
-  unfolding Translated
+  unfolding Translated ranNumbers
   run-direct q = go (checks w s o l)
     where
       of-stages : {p : Packet} {t : Term} {args : List Tree} → Checked w s o l p t args → Staged w s o p t args (run w s o l) → Ran w s o l k u n
@@ -87,6 +88,7 @@ module _ (w s o l : List ℕ) (k u n : ℕ) where
           let x : ApplyAll (ruleTree t) args r k = rw (← a) (h .translated) in
           let i = c .is-rule in
           record {
+            numbers = rw q;
             sent = p;
             is-packet = c .is-packet;
             term = t;

@@ -6,3 +6,5 @@ pub mod Stages
 pub mod Checks
 pub mod Refused
 pub mod Direct
+pub mod Empty
+pub mod Complete

@@ -23,7 +23,7 @@ use Rattle.machine.proofs.Cases.{says-by}
 use Rattle.packet.specs.Packet.{Packet, packet}
 use Rattle.run.specs.Run.{Whole, whole, run, ranNumbers}
 use Rattle.run.specs.declared.Ran.the-variants.{Refused}
-use Rattle.run.proofs.Outcomes.{Fit, ReadStops, no-nodes, no-frames, later, Stops, translate-nodes, translate-frames, in-read, in-apply, in-write, Staged}
+use Rattle.run.proofs.Outcomes.{Fit, ReadStops, no-nodes, no-frames, later, ApplyStops, Stops, translate-nodes, translate-frames, in-read, in-apply, in-write, Staged}
 use Rattle.run.proofs.Outcomes as outcomes
 use Rattle.run.proofs.Checks.{Checked, Unreadable, Refuses, too-long, no-packet, no-rule, no-text, stops, run-long, run-broken-packet, run-bad-rule, run-bad-text, run-checked, Checks, fails, passes, checks}
 
@@ -40,22 +40,28 @@ Late Nodes = Unit {0}
 Late Frames = Unit {0}
 Late Out = Unit {0}
 
+-- a stage stops for nodes, frames or out bytes, or an application for steps
+pub stops-by : (P : Refusal → Type 0) {w s o : List ℕ} {p : Packet} {t : Term} {args : List Tree} → (ApplyStops s p t args Steps → P Steps) → P Nodes → P Frames → P Out
+    → {e : Refusal} {m : ℕ} → Stops w s o p t args e m → P e
+stops-by P a b c d (translate-nodes h) = b
+stops-by P a b c d (translate-frames h k) = c
+stops-by P a b c d (in-read r) = go r
+  where
+    go : {w s : List ℕ} {u : ℕ} {ls : List (List ℕ)} {e : Refusal} {m : ℕ} → ReadStops w s u ls e m → P e
+    go (no-nodes h) = b
+    go (no-frames h k) = c
+    go (later h k r) = go r
+stops-by P {s = s} {p = p} {t = t} {args = args} a b c d (in-apply {e = e} x h) =
+    says-by (λ (e : Refusal). ApplyStops s p t args e → P e) absurd absurd absurd (λ l. a) (λ l y. b) (λ l y. c) e (x .lacking) x
+stops-by P a b c d (in-write x h r l) = go r
+  where
+    go : {all held n : ℕ} {r : Tree} {e : Refusal} → Spent all held r n (lacks e) → P e
+    go (no-out h) = d
+    go (no-frame h) = c
+
 -- the stages stop with 7 to 10 alone
 pub stops-late : {w s o : List ℕ} {p : Packet} {t : Term} {args : List Tree} {e : Refusal} {m : ℕ} → Stops w s o p t args e m → Late e
-stops-late (translate-nodes h) = tt
-stops-late (translate-frames h k) = tt
-stops-late (in-read r) = go r
-  where
-    go : {w s : List ℕ} {u : ℕ} {ls : List (List ℕ)} {e : Refusal} {m : ℕ} → ReadStops w s u ls e m → Late e
-    go (no-nodes h) = tt
-    go (no-frames h k) = tt
-    go (later h k r) = go r
-stops-late (in-apply {e = e} a h) = says-by Late absurd absurd absurd (λ x. tt) (λ x. tt) (λ x. tt) e (a .lacking)
-stops-late (in-write {e = e} a h x l) = go x
-  where
-    go : {all held n : ℕ} {r : Tree} {c : Refusal} → Spent all held r n (lacks c) → Late c
-    go (no-out h) = tt
-    go (no-frame h) = tt
+stops-late = stops-by Late (λ a. tt) tt tt tt
 
 pub refuses-with : {w s o l : List ℕ} {x : Whole} {e : Refusal} → Refuses w s o l x e → x .answer ≡ Refused e
 refuses-with (too-long h q) = ap (λ (z : Whole). z .answer) q
@@ -118,8 +124,7 @@ module _ (w s o l : List ℕ) where
       go (no-rule f h k r) n = absurd n
       go (no-text f h k u r) n = absurd n
       go (stops c {m = m} h k r) n =
-          let t : run w s o l .table ≡ cleared w 0 (m * 2) = cc in
-          (
+          let t : run w s o l .table ≡ cleared w 0 (m * 2) = cc in (
             m,
             k,
             λ i b. ap (λ (x : List ℕ). getD x i 0) t ∙ cleared-inside w 0 (m * 2) i (omega arith) b (omega arith),
