@@ -34,7 +34,7 @@ pub record Bare (w s o l : List ℕ) (t : Term) (k u n : ℕ) : Type 0 where
 pub run-empty : (w s o l : List ℕ) (k u n : ℕ) (p : Packet) (t : Term) → packet l ≡ some p → p .arguments ≡ [] → rule (p .rule) ≡ some t → run w s o l .answer ≡ Text k u n
     → Bare w s o l t k u n
 unfolding total
-run-empty w s o l k u n p t e a q h = go (x .args) (cc) (x .translated)
+run-empty w s o l k u n p t e a q h = go (x .args) (ap (map treeOf) (sym (ap (λ (y : Packet). y .arguments) sent ∙ a)) ∙ x .arguments-are) (x .translated)
   where
     x : Ran w s o l k u n
     x = run-direct w s o l k u n h
