@@ -1,18 +1,17 @@
 -- Run's four checks in their order, 1, 6, 5 and 4, and the outcome that follows each. Assumes nothing.
 use Prim.Native.Nat.{ℕ, _*_, _≤_}
-use mathlib.Core.Path.{_≡_, refl, ap, ap₂, sym, _∙_}
-use mathlib.Core.Bool.{Bool, true, false, cond, _&&_}
+use mathlib.Core.Path.{_≡_, refl}
+use mathlib.Core.Bool.{Bool, true, false, cond}
 use mathlib.Core.List.{List, [], _∷_, map}
 use mathlib.Core.Logic.{_⊎_, inl, inr}
 use mathlib.Core.Option.{Option, none, some}
-use native.Mathlib.Omega.{arith}
 use lib.ListN.{length}
 use lib.Dec.{leb}
 use borrow.Author.Tests.{leb-true, le-leb}
 use Rattle.calculus.specs.Tree.{Tree}
 use Rattle.calculus.specs.Term.{Term}
 use Rattle.calculus.specs.Bytes.{rule}
-use Rattle.table.specs.Nodes.{Table, capacity, cleared}
+use Rattle.table.specs.Nodes.{capacity, cleared}
 use Rattle.table.specs.Outcome.{zeros}
 use Rattle.table.specs.declared.Refusal.{Refusal}
 use Rattle.table.specs.declared.Refusal.the-variants as refusal
@@ -20,7 +19,7 @@ use Rattle.table.proofs.Words.{and-left, and-right}
 use Rattle.text.specs.Read.{readable}
 use Rattle.text.proofs.OneText.{zero-one}
 use Rattle.packet.specs.Packet.{Packet, packet}
-use Rattle.run.specs.Run.{Whole, whole, stages, allReadable, runPacket, lengthsFit, run}
+use Rattle.run.specs.Run.{Whole, whole, allReadable, runPacket, lengthsFit, run}
 use Rattle.run.specs.declared.Ran.the-variants.{Refused}
 use Rattle.run.proofs.Limit.{packet-limit}
 use Rattle.run.proofs.Outcomes.{Fit, Stops, Staged}

@@ -1,12 +1,12 @@
 -- What a Run that writes a text is: the direct run of the packet's rule on its arguments. Assumes nothing.
-use Prim.Native.Nat.{ℕ, _+_, _*_, _≤_, _<_}
+use Prim.Native.Nat.{ℕ, _+_, _*_, _≤_}
 use mathlib.Core.Path.{_≡_, refl, sym, ap, _∙_}
 use mathlib.Core.List.{List, [], _∷_, _++_, map}
-use mathlib.Core.Option.{none, some}
+use mathlib.Core.Option.{some}
 use native.Mathlib.Omega.{arith}
 use lib.ListN.{length, take, drop, getD}
 use lib.Seq.{take-at}
-use Rattle.calculus.specs.Tree.{Tree, size}
+use Rattle.calculus.specs.Tree.{Tree}
 use Rattle.calculus.specs.Rules.{ApplyAll}
 use Rattle.calculus.specs.Term.{Term, parameters}
 use Rattle.calculus.specs.Bytes.{rule}
@@ -14,7 +14,7 @@ use Rattle.calculus.specs.Abstraction.{ruleTree}
 use Rattle.calculus.specs.Runs.{Direct, Translated, difference}
 use Rattle.calculus.proofs.Rule.{rule-exact}
 use Rattle.calculus.proofs.Demand3.{demand-3}
-use Rattle.table.specs.Nodes.{Table, Sound}
+use Rattle.table.specs.Nodes.{Sound}
 use Rattle.table.specs.Outcome.{zeros}
 use Rattle.text.specs.Text.{text, treeOf}
 use Rattle.text.specs.Read.{readable}
@@ -23,8 +23,8 @@ use Rattle.text.proofs.Reading.{readable-some}
 use Rattle.packet.specs.Packet.{Packet, packet}
 use Rattle.run.specs.Run.{Whole, run, ranNumbers}
 use Rattle.run.specs.declared.Ran.the-variants.{Text}
-use Rattle.run.proofs.Outcomes.{Fit, total, Ends, Staged, stops, ends}
-use Rattle.run.proofs.Checks.{Checked, Refuses, run-checked, Checks, fails, passes, checks}
+use Rattle.run.proofs.Outcomes.{Count, Staged, stops, ends}
+use Rattle.run.proofs.Checks.{Checked, run-checked, Checks, fails, passes, checks}
 use Rattle.run.proofs.Refused.{refuses-with}
 
 -- What is claimed of a Run that writes n digits after k steps and leaves u nodes in use.
@@ -49,9 +49,8 @@ pub record Ran (w s o l : List ℕ) (k u n : ℕ) : Type 0 where
   -- "The planner's run then has a tree, and it is this one; for n = 1 the steps [..] are the planner's plus 2L + 5X − 1."
   pub direct : 1 ≤ length args → length args ≤ parameters term → (j : ℕ) × Direct term args tree j
   pub steps : length args ≡ 1 → (j : ℕ) → Direct term args tree j → k ≡ j + difference term
-  -- the nodes in use: the rule's, one a digit of the arguments' texts, and those that were made by applying, at most one a step
-  pub used-least : size (ruleTree term) + total (sent .arguments) ≤ u
-  pub used-most : u ≤ size (ruleTree term) + total (sent .arguments) + k
+  -- the nodes in use: the rule's, one a digit of the arguments' texts, and those made by applying, at most one a step
+  pub used-is : Count sent term k u
   -- "Success also sets the stack to 0, and no other table word than those of new nodes changes."
   pub stack : run w s o l .stack ≡ zeros s
   pub same-length : length (run w s o l .table) ≡ length w
@@ -103,8 +102,7 @@ module _ (w s o l : List ℕ) (k u n : ℕ) where
             within-limit = omega (arith, h .within-limit);
             direct = λ low high. demand-3 (p .rule) t i args low high r .0 .0 (k, x);
             steps = λ one j y. demand-3 (p .rule) t i args (omega arith) (omega (arith, leads (p .rule) i)) r .1 k j one x y;
-            used-least = omega (arith, h .used-least);
-            used-most = omega (arith, h .used-most);
+            used-is = rw (← a, ← b) (h .count);
             stack = cc;
             same-length = ap length words ∙ h .extends .kept .same-length;
             beyond = λ i l. rw words (h .extends .beyond i (omega arith));

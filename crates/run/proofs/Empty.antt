@@ -1,5 +1,5 @@
 -- A Run without arguments. Assumes nothing.
-use Prim.Native.Nat.{ℕ, _+_, _≤_}
+use Prim.Native.Nat.{ℕ}
 use mathlib.Core.Path.{_≡_, refl, sym, ap, _∙_}
 use mathlib.Core.List.{List, [], _∷_, _++_, map}
 use mathlib.Core.Option.{some}
@@ -54,7 +54,7 @@ run-empty w s o l k u n p t e a q h = go (x .args) (ap (map treeOf) (sym (ap (λ
         let r : x .tree ≡ ruleTree t = y .0 ∙ ap ruleTree same in
         record {
           steps-none = y .1;
-          used-is = rw (← same) (omega (arith, x .used-least, x .used-most, y .1, none));
+          used-is = rw (← same) (omega (arith, x .used-is .least, x .used-is .most, y .1, none));
           digits-are = rw (← r) (x .digits-are);
           out-is = rw (← r) (x .out-is);
         }

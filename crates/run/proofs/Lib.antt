@@ -1,6 +1,6 @@
 pub mod Limit
-pub mod Undone
 pub mod Grown
+pub mod Undone
 pub mod Outcomes
 pub mod Stages
 pub mod Checks

@@ -32,6 +32,12 @@ unfoldable pub total : List (List ℕ) → ℕ
 total [] = 0
 total (l ∷ ls) = length l + total ls
 
+-- m nodes were made since Run's entry: the translated rule's, one a digit of the arguments' texts, and those that k uses of the rules made, at most one
+-- each
+pub record Count (p : Packet) (t : Term) (k m : ℕ) : Type 0 where
+  pub least : size (ruleTree t) + total (p .arguments) ≤ m
+  pub most : m ≤ size (ruleTree t) + total (p .arguments) + k
+
 -- What the Read of one of the texts lacks, where u nodes are in use before the first of them and m before that one: "8: more digits than free
 -- nodes. 9: fewer frames than the most trees pending".
 pub data ReadStops (w s : List ℕ) : ℕ → List (List ℕ) → Refusal → ℕ → Type 0 where
@@ -61,9 +67,9 @@ pub data Stops (w s o : List ℕ) (p : Packet) (t : Term) (args : List Tree) : R
   translate-nodes : capacity w < size (ruleTree t) → Stops w s o p t args Nodes 0
   translate-frames : size (ruleTree t) ≤ capacity w → frames s < 2 * size (ruleTree t) → Stops w s o p t args Frames 0
   in-read : {e : Refusal} {m : ℕ} → ReadStops w s (size (ruleTree t)) (p .arguments) e m → Stops w s o p t args e m
-  in-apply : {e : Refusal} {m : ℕ} → ApplyStops s p t args e → size (ruleTree t) + total (p .arguments) ≤ m → Stops w s o p t args e m
+  in-apply : {e : Refusal} {m : ℕ} → ApplyStops s p t args e → Count p t (p .limit) m → Stops w s o p t args e m
   in-write : {e : Refusal} {m : ℕ} {r : Tree} {k : ℕ} → ApplyAll (ruleTree t) args r k → k ≤ p .limit → Spent (frames s) 0 r (length o) (lacks e)
-      → size (ruleTree t) + total (p .arguments) ≤ m → Stops w s o p t args e m
+      → Count p t k m → Stops w s o p t args e m
 
 -- What the stages had where the text of r is written, after k steps and with the table z.
 pub record Ends (w o : List ℕ) (p : Packet) (t : Term) (args : List Tree) (r : Tree) (k : ℕ) (z : Table) : Type 0 where
@@ -71,8 +77,7 @@ pub record Ends (w o : List ℕ) (p : Packet) (t : Term) (args : List Tree) (r :
   pub within-limit : k ≤ p .limit
   pub fine : Sound z
   pub extends : Extends (record { words = w; used = 0 }) z
-  pub used-least : size (ruleTree t) + total (p .arguments) ≤ z .used
-  pub used-most : z .used ≤ size (ruleTree t) + total (p .arguments) + k
+  pub count : Count p t k (z .used)
   pub room : length (text r) ≤ length o
 
 -- the two kinds of the stages' outcome x

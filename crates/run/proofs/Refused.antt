@@ -1,6 +1,6 @@
 -- What a refused Run leaves, and the exact condition of each check's refusal. Assumes nothing.
 use Prim.Native.Nat.{ℕ, _*_, _≤_, _<_}
-use mathlib.Core.Path.{_≡_, refl, ap, sym, _∙_}
+use mathlib.Core.Path.{_≡_, ap, _∙_}
 use mathlib.Core.List.{List}
 use mathlib.Core.Logic.{_↔_}
 use mathlib.Core.Option.{none, some}
@@ -11,7 +11,7 @@ use Rattle.calculus.specs.Term.{Term}
 use Rattle.calculus.specs.Bytes.{rule}
 use Rattle.table.specs.Nodes.{capacity, cleared}
 use Rattle.table.specs.Outcome.{zeros}
-use Rattle.table.specs.Refusal.{Numbers, number, refusedNumbers}
+use Rattle.table.specs.Refusal.{number, refusedNumbers}
 use Rattle.table.specs.declared.Refusal.{Refusal}
 use Rattle.table.specs.declared.Refusal.the-variants.{Limits, Broken, Node, Text, Rule, Steps, Nodes, Frames, Out}
 use Rattle.table.specs.declared.Refusal.the-variants as refusal
@@ -21,7 +21,7 @@ use Rattle.text.proofs.OneText.{zero-one}
 use Rattle.text.proofs.Writes.{Spent, no-out, no-frame}
 use Rattle.machine.proofs.Cases.{says-by}
 use Rattle.packet.specs.Packet.{Packet, packet}
-use Rattle.run.specs.Run.{Whole, whole, run, ranNumbers}
+use Rattle.run.specs.Run.{Whole, run, ranNumbers}
 use Rattle.run.specs.declared.Ran.the-variants.{Refused}
 use Rattle.run.proofs.Outcomes.{Fit, ReadStops, no-nodes, no-frames, later, ApplyStops, Stops, translate-nodes, translate-frames, in-read, in-apply, in-write, Staged}
 use Rattle.run.proofs.Outcomes as outcomes

@@ -1,12 +1,11 @@
 -- Run's stages, one after another: each goes on with what it made, or stops for what it lacks. Assumes nothing.
-use Prim.Native.Nat.{ℕ, _+_, _-_, _*_, _/_, _≤_, _<_}
+use Prim.Native.Nat.{ℕ, _+_, _-_, _/_, _≤_, _<_}
 use mathlib.Core.Path.{_≡_, refl, sym, ap, _∙_, subst}
 use mathlib.Core.Bool.{Bool, true}
 use mathlib.Core.List.{List, [], _∷_, _++_, map, append-assoc, append-nil}
-use mathlib.Core.Option.{Option, none, some}
+use mathlib.Core.Option.{some}
 use native.Mathlib.Omega.{arith}
-use lib.ListN.{length, drop, length-replicate}
-use lib.Dec.{leb}
+use lib.ListN.{length, length-replicate}
 use borrow.Author.Tests.{le-leb}
 use Rattle.calculus.specs.Tree.{Tree, size}
 use Rattle.calculus.specs.Rules.{Apply, ApplyAll, at-end, and-next}
@@ -14,36 +13,34 @@ use Rattle.calculus.specs.Term.{Term}
 use Rattle.calculus.specs.Bytes.{rule}
 use Rattle.calculus.specs.Abstraction.{ruleTree}
 use Rattle.calculus.proofs.Unique.{apply-unique}
-use Rattle.table.specs.Nodes.{Table, capacity, sound, Sound, treeAt, cleared}
-use Rattle.table.specs.Outcome.{frames, zeros}
+use Rattle.table.specs.Nodes.{Table, capacity, sound, Sound, treeAt}
+use Rattle.table.specs.Outcome.{zeros}
 use Rattle.table.specs.declared.Refusal.{Refusal}
-use Rattle.table.specs.declared.Refusal.the-variants.{Steps, Nodes, Frames}
+use Rattle.table.specs.declared.Refusal.the-variants.{Nodes, Frames}
 use Rattle.table.specs.declared.Made.{Made}
 use Rattle.table.specs.declared.Made.the-variants as made
 use Rattle.table.proofs.Trees.{Kept, kept-refl, kept-trans, Extends, extends-refl, extends-trans}
 use Rattle.table.proofs.Making.{Has, has, stays}
 use Rattle.table.proofs.Entry.{Entered, enters}
-use Rattle.text.specs.Text.{text, mostPending}
 use Rattle.text.specs.Read.{read, readable}
-use Rattle.text.specs.Write.{lacks}
 use Rattle.text.specs.Write as write
 use Rattle.text.proofs.OneText.{zero-one, length-text}
 use Rattle.text.proofs.Reading.{some-readable, ReadLacks, read-refused, read-lacks, read-gives}
-use Rattle.text.proofs.Writes.{Spent, WriteLacks, WriteCase, write-case}
+use Rattle.text.proofs.Writes.{WriteLacks, WriteCase, write-case}
 use Rattle.term.specs.Translate.{translate}
 use Rattle.term.proofs.Translates.{translate-gives, translate-refused}
 use Rattle.term.proofs.Lacks.{Lacks, translate-lacks}
-use Rattle.machine.specs.Apply.{begin, apply}
+use Rattle.machine.specs.Apply.{apply}
 use Rattle.machine.specs.declared.Applied.{Applied}
 use Rattle.machine.specs.declared.Applied.the-variants as applied
 use Rattle.machine.proofs.Follows.{apply-follows}
 use Rattle.machine.proofs.Complete.{steps-used-up}
 use Rattle.packet.specs.Packet.{Packet}
-use Rattle.run.specs.Run.{Whole, whole, stopped, afterMade, afterApplied, afterWritten, writes, applies, reads, stages}
-use Rattle.run.specs.declared.Ran.the-variants.{Text, Refused}
-use Rattle.run.proofs.Undone.{Back, back-same, back-cleared, Lacking, apply-halts}
+use Rattle.run.specs.Run.{Whole, stopped, afterMade, afterApplied, afterWritten, writes, applies, reads, stages}
+use Rattle.run.specs.declared.Ran.the-variants.{Refused}
+use Rattle.run.proofs.Undone.{Back, back-same, back-cleared, apply-halts}
 use Rattle.run.proofs.Grown.{apply-grown}
-use Rattle.run.proofs.Outcomes.{Fit, total, ReadStops, no-nodes, no-frames, later, ApplyStops, Stops, translate-nodes, translate-frames, in-read, in-apply, in-write, Ends, Staged, stops, ends}
+use Rattle.run.proofs.Outcomes.{Fit, total, Count, ReadStops, no-nodes, no-frames, later, Stops, translate-nodes, translate-frames, in-read, in-apply, in-write, Staged, stops, ends}
 
 -- Between two stages: the table z, whose words were found as w with no node in use, and the stack y, lent as s.
 record Stands (w s : List ℕ) (z : Table) (y : List ℕ) : Type 0 where
@@ -84,8 +81,7 @@ record Applying (w s : List ℕ) (p : Packet) (t : Term) (z : Table) (y : List �
   root : Has z v tree
   so-far : ApplyAll (ruleTree t) before tree k
   within-limit : k ≤ p .limit
-  least : size (ruleTree t) + total (p .arguments) ≤ z .used
-  most : z .used ≤ size (ruleTree t) + total (p .arguments) + k
+  count : Count p t k (z .used)
 
 module _ {w s o : List ℕ} (fit : Fit w s o) (p : Packet) (t : Term) (args : List Tree) where
   enter : {z : Table} {y : List ℕ} → Stands w s z y → {own : Bool} → own ≡ true → Entered own (z .words) (z .used) y
@@ -111,7 +107,7 @@ module _ {w s o : List ℕ} (fit : Fit w s o) (p : Packet) (t : Term) (args : Li
       lacked (WriteLacks.no-node f h) = absurd (omega (arith, a .root .inside))
       lacked (WriteLacks.no-room f h x) = (
         zeros-length _ y refl ∙ st .stack,
-        in-write (a .so-far) (a .within-limit) (rw (a .root .tree, st .stack) at x) (a .least),
+        in-write (a .so-far) (a .within-limit) (rw (a .root .tree, st .stack) at x) (a .count),
       )
 
       go : WriteCase (z .words) (z .used) y v o (write.write (z .words) (z .used) y v o)
@@ -124,8 +120,7 @@ module _ {w s o : List ℕ} (fit : Fit w s o) (p : Packet) (t : Term) (args : Li
             within-limit = a .within-limit;
             fine = st .fine;
             extends = st .extends;
-            used-least = a .least;
-            used-most = a .most;
+            count = a .count;
             room = omega (arith, length-text (a .tree), ap size (a .root .tree), h .bytes-enough);
           }) refl)
 
@@ -156,8 +151,7 @@ module _ {w s o : List ℕ} (fit : Fit w s o) (p : Packet) (t : Term) (args : Li
               root = record { inside = q .inside; tree = refl };
               so-far = apply-further (a .so-far) (rw (a .root .tree, h .tree) at (q .applies));
               within-limit = omega (arith, q .within-limit, a .within-limit);
-              least = omega (arith, q .extends .kept .up, a .least);
-              most = omega (arith, a .most, apply-grown (z .words) (z .used) y v n (p .limit - k) v′ u′ j e);
+              count = record { least = omega (arith, q .extends .kept .up, a .count .least); most = omega (arith, a .count .most, apply-grown (z .words) (z .used) y v n (p .limit - k) v′ u′ j e) };
             })
             (m ∙ sym (append-assoc before (x ∷ []) xs))
         go (applied.Refused e) q on =
@@ -176,7 +170,7 @@ module _ {w s o : List ℕ} (fit : Fit w s o) (p : Packet) (t : Term) (args : Li
               lacking = rw (← st .stack) (b .lacking);
               no-tree = λ c d. in-time xs (p .limit) (a .so-far) (a .within-limit)
                   (λ g i f. steps-used-up (z .words) (z .used) y v n (p .limit - k) (q ∙ ap applied.Refused c) (rw (← a .root .tree, ← h .tree) at f)) (rw m at d);
-            }) (omega (arith, a .least, b .back .up)))
+            }) (record { least = omega (arith, a .count .least, b .back .up); most = omega (arith, a .count .most, a .within-limit, b .most) }))
             (b .back) (zeros-length _ y (b .stack) ∙ st .stack)
 
   -- each text is read: the nodes have the texts' trees, and each digit is a node
@@ -270,8 +264,7 @@ module _ {w s o : List ℕ} (fit : Fit w s o) (p : Packet) (t : Term) (args : Li
             root = stays (c .fine) k (has c);
             so-far = at-end;
             within-limit = omega arith;
-            least = omega arith;
-            most = omega arith;
+            count = record { least = omega arith; most = omega arith };
           }) refl)
       go (made.Refused e) f =
           let a = lacked (translate-lacks w 0 s (p .rule) e f) in

@@ -9,20 +9,19 @@ use lib.Seq.{ext-getD}
 use lib.Dec.{ltb, leb}
 use borrow.Author.Tests.{ltb-true, ltb-false, lt-ltb}
 use Rattle.table.specs.Nodes.{Table, capacity, Sound, cleared}
-use Rattle.table.specs.Outcome.{Outcome, frames, zeros, stopped}
+use Rattle.table.specs.Outcome.{frames, zeros, stopped}
 use Rattle.table.specs.declared.Refusal.{Refusal}
-use Rattle.table.specs.declared.Refusal.the-variants.{Steps}
+use Rattle.table.specs.declared.Refusal.the-variants.{Steps, Nodes, Frames}
 use Rattle.table.proofs.Words.{length-cleared, cleared-inside, cleared-beyond}
 use Rattle.table.proofs.Trees.{Extends}
-use Rattle.table.proofs.Entry.{Entered, enters, Undone, stopped-undone}
-use Rattle.machine.specs.declared.Applied.{Applied}
+use Rattle.table.proofs.Entry.{Entered, enters, stopped-undone}
 use Rattle.machine.specs.declared.Applied.the-variants.{Refused}
 use Rattle.machine.specs.Machine.{State, Turn, more, done, stop, uses}
 use Rattle.machine.specs.Apply.{settle, begin, apply}
-use Rattle.machine.proofs.States.{Later, uses-later}
+use Rattle.machine.proofs.States.{Later, uses-later, Counted, uses-steps}
 use Rattle.machine.proofs.Cases.{Says, says-by, good-begin}
 use Rattle.machine.proofs.Stops.{stop-lacks, LacksWithin, apply-stops}
-use Rattle.table.specs.declared.Refusal.the-variants.{Nodes, Frames}
+use Rattle.run.proofs.Grown.{Grown, uses-grown}
 
 -- The words x that a refused stage leaves where it found the table t: the words of the nodes up to m, made by it, are 0, and those past them are
 -- as found. What lies below is not asked: Run clears it.
@@ -87,6 +86,7 @@ InUse = Says ⊥ (Unit {0}) (Unit {0}) (Unit {0})
 pub record Halted (w : List ℕ) (u : ℕ) (s : List ℕ) (f n limit : ℕ) (e : Refusal) : Type 0 where
   pub made : ℕ
   pub back : Back (record { words = w; used = u }) made (apply w u s f n limit .table)
+  pub most : made ≤ u + limit
   pub stack : apply w u s f n limit .stack ≡ zeros s
   pub lacking : Lacking (frames s) limit (begin w u f n) e
 
@@ -99,10 +99,12 @@ module _ (w : List ℕ) (u : ℕ) (s : List ℕ) (f n limit : ℕ) where
   pub apply-halts : (e : Refusal) → Entered (leb limit 1000000) w u s → f < u → n < u → apply w u s f n limit .answer ≡ Refused e → Halted w u s f n limit e
   unfolding settle stopped
   apply-halts e i h l q =
-      let a = by (uses (frames s) limit (begin w u f n)) refl (uses-later limit (good-begin i h l)) (rw (settles i h l) at q) in
+      let a = by (uses (frames s) limit (begin w u f n)) refl (uses-later limit (good-begin i h l))
+      (uses-grown (frames s) limit (begin w u f n)) (uses-steps (frames s) limit (begin w u f n)) (rw (settles i h l) at q) in
       record {
         made = a .0;
         back = rw (settles i h l) (a .1);
+        most = a .4;
         stack = rw (settles i h l) (a .2);
         lacking = says-by (λ (c : Refusal). InUse c → Lacking (frames s) limit (begin w u f n) c)
             (λ x y. absurd y) (λ x y. absurd y) (λ x y. absurd y) (λ x y. x) (λ x y. x) (λ x y. x) e (apply-stops w u s f n limit e q) (a .3);
@@ -122,11 +124,12 @@ module _ (w : List ℕ) (u : ℕ) (s : List ℕ) (f n limit : ℕ) where
             beyond = d .beyond;
           }
 
-      by : (x : Turn) → uses (frames s) limit (begin w u f n) ≡ x → Later (frames s) t x → settle u s x .answer ≡ Refused e
-          → (m : ℕ) × Back t m (settle u s x .table) × (settle u s x .stack ≡ zeros s) × InUse e
-      by (more z) r y p = let a : Steps ≡ e = cc in (z .table .used, undone Steps (y .extends) (y .fine), refl, rw (← a) tt)
-      by (done v j) r y p = let c : _≡_ {A = ℕ} 0 1 = cc in absurd (omega arith)
-      by (stop d z) r y p =
+      by : (x : Turn) → uses (frames s) limit (begin w u f n) ≡ x → Later (frames s) t x → Grown u 0 limit x → Counted 0 limit x
+          → settle u s x .answer ≡ Refused e
+          → (m : ℕ) × Back t m (settle u s x .table) × (settle u s x .stack ≡ zeros s) × InUse e × (m ≤ u + limit)
+      by (more z) r y g c p = let a : Steps ≡ e = cc in (z .table .used, undone Steps (y .extends) (y .fine), refl, rw (← a) tt, omega arith)
+      by (done v j) r y g c p = let n : _≡_ {A = ℕ} 0 1 = cc in absurd (omega arith)
+      by (stop d z) r y g c p =
           let a : d ≡ e = cc in
           let b = stop-lacks (frames s) limit (begin w u f n) d z r in
-          (z .used, undone d (y .extends) (y .fine), refl, rw (← a) (says-by InUse absurd absurd absurd absurd (λ x. tt) (λ x. tt) d (b .5)))
+          (z .used, undone d (y .extends) (y .fine), refl, rw (← a) (says-by InUse absurd absurd absurd absurd (λ x. tt) (λ x. tt) d (b .5)), omega arith)
