@@ -70,6 +70,22 @@ refuses-with (no-rule f h k q) = ap (λ (z : Whole). z .answer) q
 refuses-with (no-text f h k u q) = ap (λ (z : Whole). z .answer) q
 refuses-with (stops c h k q) = ap (λ (z : Whole). z .answer) q
 
+-- What a Run that is refused with 7 to 10 leaves of the table w and the stack s. Run takes the table as empty, so the nodes made are 0 to `made` − 1.
+pub record Undid (w s : List ℕ) (x : Whole) : Type 0 where
+  pub made : ℕ
+  pub within : made ≤ capacity w
+  pub same-length : length (x .table) ≡ length w
+  pub made-cleared : (i : ℕ) → i < made * 2 → getD (x .table) i 0 ≡ 0
+  pub beyond : (i : ℕ) → made * 2 ≤ i → getD (x .table) i 0 ≡ getD w i 0
+  pub stack : x .stack ≡ zeros s
+
+-- the conditions of 5 and 4, where those before are passed
+abbrev pub BadRule : List ℕ → List ℕ → List ℕ → List ℕ → Type 0
+BadRule w s o l = Fit w s o × (p : Packet) × (packet l ≡ some p) × (rule (p .rule) ≡ none)
+
+abbrev pub BadText : List ℕ → List ℕ → List ℕ → List ℕ → Type 0
+BadText w s o l = Fit w s o × (p : Packet) × (packet l ≡ some p) × (t : Term) × (rule (p .rule) ≡ some t) × Unreadable (p .arguments)
+
 module _ (w s o l : List ℕ) where
   -- "A refusal returns its number [..] Numbers 1 to 6 [..] leave lent memory as found. Numbers 7 to 10 set to 0 the words of the nodes made in the call
   -- and the whole stack; the out bytes stay as at entry": each refusal of Run comes only on its condition, and leaves lent memory so.
@@ -109,29 +125,25 @@ module _ (w s o l : List ℕ) where
       go (no-text f h k u r) n = (cc, cc)
       go (stops c h k r) n = absurd (n (stops-late h))
 
-  -- "Numbers 7 to 10 set to 0 the words of the nodes made in the call and the whole stack": Run takes the table as empty, so these are the words of
-  -- nodes 0 to m − 1, and all others are as found.
-  pub refused-late : (e : Refusal) → run w s o l .answer ≡ Refused e → Late e
-      → (m : ℕ) × (m ≤ capacity w) × ((i : ℕ) → i < m * 2 → getD (run w s o l .table) i 0 ≡ 0)
-      × ((i : ℕ) → m * 2 ≤ i → getD (run w s o l .table) i 0 ≡ getD w i 0) × (length (run w s o l .table) ≡ length w) × (run w s o l .stack ≡ zeros s)
+  -- "Numbers 7 to 10 set to 0 the words of the nodes made in the call and the whole stack"
+  pub refused-late : (e : Refusal) → run w s o l .answer ≡ Refused e → Late e → Undid w s (run w s o l)
   refused-late e q = go (run-refused e q)
     where
-      go : {c : Refusal} → Refuses w s o l (run w s o l) c → Late c
-          → (m : ℕ) × (m ≤ capacity w) × ((i : ℕ) → i < m * 2 → getD (run w s o l .table) i 0 ≡ 0)
-          × ((i : ℕ) → m * 2 ≤ i → getD (run w s o l .table) i 0 ≡ getD w i 0) × (length (run w s o l .table) ≡ length w) × (run w s o l .stack ≡ zeros s)
+      go : {c : Refusal} → Refuses w s o l (run w s o l) c → Late c → Undid w s (run w s o l)
       go (too-long h r) n = absurd n
       go (no-packet f h r) n = absurd n
       go (no-rule f h k r) n = absurd n
       go (no-text f h k u r) n = absurd n
       go (stops c {m = m} h k r) n =
-          let t : run w s o l .table ≡ cleared w 0 (m * 2) = cc in (
-            m,
-            k,
-            λ i b. ap (λ (x : List ℕ). getD x i 0) t ∙ cleared-inside w 0 (m * 2) i (omega arith) b (omega arith),
-            λ i b. ap (λ (x : List ℕ). getD x i 0) t ∙ cleared-beyond w 0 (m * 2) i (omega arith) b (omega arith),
-            ap length t ∙ length-cleared w 0 (m * 2) (omega arith) (omega arith),
-            cc,
-          )
+          let t : run w s o l .table ≡ cleared w 0 (m * 2) = cc in
+          record {
+            made = m;
+            within = k;
+            same-length = ap length t ∙ length-cleared w 0 (m * 2) (omega arith) (omega arith);
+            made-cleared = λ i b. rw t (cleared-inside w 0 (m * 2) i (omega arith) b (omega arith));
+            beyond = λ i b. rw t (cleared-beyond w 0 (m * 2) i (omega arith) b (omega arith));
+            stack = cc;
+          }
 
   -- Run takes "the table taken as empty", so that no node is broken and no node number is the caller's: 2 and 3 do not come.
   pub never-broken : run w s o l .answer ≡ Refused Broken → ⊥
@@ -169,18 +181,17 @@ module _ (w s o l : List ℕ) where
       go (stops c h k r) = absurd (stops-late h)
 
   -- "5: its rule."
-  pub run-rule : (run w s o l .answer ≡ Refused Rule) ↔ (Fit w s o × (p : Packet) × (packet l ≡ some p) × (rule (p .rule) ≡ none))
+  pub run-rule : (run w s o l .answer ≡ Refused Rule) ↔ BadRule w s o l
   run-rule = (λ q. go (run-refused Rule q), λ h. ap (λ (x : Whole). x .answer) (run-bad-rule l (h .0) (h .2) (h .3)))
     where
-      go : Refuses w s o l (run w s o l) Rule → Fit w s o × (p : Packet) × (packet l ≡ some p) × (rule (p .rule) ≡ none)
+      go : Refuses w s o l (run w s o l) Rule → BadRule w s o l
       go (no-rule f {p = p} h k r) = (f, p, h, k)
       go (stops c h k r) = absurd (stops-late h)
 
   -- "4: its arguments' texts, first to last."
-  pub run-text : (run w s o l .answer ≡ Refused Text)
-      ↔ (Fit w s o × (p : Packet) × (packet l ≡ some p) × (t : Term) × (rule (p .rule) ≡ some t) × Unreadable (p .arguments))
+  pub run-text : (run w s o l .answer ≡ Refused Text) ↔ BadText w s o l
   run-text = (λ q. go (run-refused Text q), λ h. ap (λ (x : Whole). x .answer) (run-bad-text l (h .0) (h .2) (h .4) (h .5)))
     where
-      go : Refuses w s o l (run w s o l) Text → Fit w s o × (p : Packet) × (packet l ≡ some p) × (t : Term) × (rule (p .rule) ≡ some t) × Unreadable (p .arguments)
+      go : Refuses w s o l (run w s o l) Text → BadText w s o l
       go (no-text f {p = p} h {t = t} k u r) = (f, p, h, t, k, u)
       go (stops c h k r) = absurd (stops-late h)
