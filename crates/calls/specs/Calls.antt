@@ -2,7 +2,7 @@
 -- contract cites. Assumes nothing: these are definitions.
 use Prim.Native.Nat.{ℕ, _+_}
 use mathlib.Core.Path.{_≡_}
-use mathlib.Core.List.{List, [], _∷_}
+use mathlib.Core.List.{List, [], _∷_, _++_}
 use mathlib.Core.Option.{some}
 use Rattle.calculus.specs.Tree.{Tree}
 use Rattle.table.specs.Nodes.{Table, treeAt}
@@ -38,24 +38,37 @@ unfoldable pub leftBy : List Call → Table → Table
 leftBy [] t = t
 leftBy (c ∷ cs) t = leftBy cs (left c t)
 
--- From the table t on, where the run's last node is f: each further Apply applies the node last given, to a node whose tree is the next
--- argument, and the last node given has the tree r; k is the sum of the steps that they returned. Other calls may stand between.
-pub data Applied : List Call → Table → ℕ → List Tree → Tree → ℕ → Type 0 where
-  at-end : {cs : List Call} {t : Table} {f : ℕ} → Applied cs t f [] (treeAt (t .words) f) 0
-  other : {c : Call} {cs : List Call} {t : Table} {f : ℕ} {args : List Tree} {r : Tree} {k : ℕ} → Applied cs (left c t) f args r k → Applied (c ∷ cs) t f args r k
-  applies : {s : List ℕ} {f n limit v u j : ℕ} {cs : List Call} {t : Table} {args : List Tree} {r : Tree} {k : ℕ}
-      → machine.apply (t .words) (t .used) s f n limit .answer ≡ applied.Node v u j
-      → Applied cs (left (apply s f n limit) t) v args r k
-      → Applied (apply s f n limit ∷ cs) t f (treeAt (t .words) n ∷ args) r (j + k)
+-- A node that was applied to, and the calls of the list before that: "Its arguments are the trees of the nodes applied to", in a list that
+-- starts from t.
+pub record Argument : Type 0 where
+  pub before : List Call
+  pub node : ℕ
+
+unfoldable pub argumentTree : Table → Argument → Tree
+argumentTree t a = treeAt (leftBy (a .before) t .words) (a .node)
+
+-- In a list from the table t, after the calls `before`, where the run's last node is f: each further Apply applies the node last given, to the
+-- next argument, and the last node given has the tree r; k is the sum of the steps that they returned. Other calls may stand between.
+pub data Applied (t : Table) : List Call → List Call → ℕ → List Argument → Tree → ℕ → Type 0 where
+  at-end : {before cs : List Call} {f : ℕ} → Applied t before cs f [] (treeAt (leftBy before t .words) f) 0
+  other : {before : List Call} {c : Call} {cs : List Call} {f : ℕ} {args : List Argument} {r : Tree} {k : ℕ}
+      → Applied t (before ++ (c ∷ [])) cs f args r k
+      → Applied t before (c ∷ cs) f args r k
+  applies : {before : List Call} {s : List ℕ} {f n limit v u j : ℕ} {cs : List Call} {args : List Argument} {r : Tree} {k : ℕ}
+      → machine.apply (leftBy before t .words) (leftBy before t .used) s f n limit .answer ≡ applied.Node v u j
+      → Applied t (before ++ (apply s f n limit ∷ [])) cs v args r k
+      → Applied t before (apply s f n limit ∷ cs) f (record { before = before; node = n } ∷ args) r (j + k)
 
 -- "An engine's run is completed in it where a Translate succeeded and after it n Apply calls did, one after another": of the rule b, on the
--- trees args, with the tree r of the last node given, in k steps.
-pub data Completed : List Call → Table → List ℕ → List Tree → Tree → ℕ → Type 0 where
-  other : {c : Call} {cs : List Call} {t : Table} {b : List ℕ} {args : List Tree} {r : Tree} {k : ℕ} → Completed cs (left c t) b args r k → Completed (c ∷ cs) t b args r k
-  translates : {s b : List ℕ} {v u : ℕ} {cs : List Call} {t : Table} {args : List Tree} {r : Tree} {k : ℕ}
-      → term.translate (t .words) (t .used) s b .answer ≡ made.Node v u
-      → Applied cs (left (translate s b) t) v args r k
-      → Completed (translate s b ∷ cs) t b args r k
+-- arguments args, with the tree r of the last node given, in k steps.
+pub data Completed (t : Table) : List Call → List Call → List ℕ → List Argument → Tree → ℕ → Type 0 where
+  other : {before : List Call} {c : Call} {cs : List Call} {b : List ℕ} {args : List Argument} {r : Tree} {k : ℕ}
+      → Completed t (before ++ (c ∷ [])) cs b args r k
+      → Completed t before (c ∷ cs) b args r k
+  translates : {before : List Call} {s b : List ℕ} {v u : ℕ} {cs : List Call} {args : List Argument} {r : Tree} {k : ℕ}
+      → term.translate (leftBy before t .words) (leftBy before t .used) s b .answer ≡ made.Node v u
+      → Applied t (before ++ (translate s b ∷ [])) cs v args r k
+      → Completed t before (translate s b ∷ cs) b args r k
 
 -- a Read in the list gave node v, and its text's tree is x
 pub data Gave : List Call → Table → ℕ → Tree → Type 0 where

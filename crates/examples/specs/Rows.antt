@@ -25,8 +25,7 @@ pub data Program : Type 0 where
   tree : List ℕ → Program
 
 -- An input: a text for Read; a program applied to arguments by their texts, with a step limit, and with so many nodes free and so many frames
--- lent for applying; or a rule and arguments as a packet, with the memory that document 01's program lends, but for the table and the out bytes,
--- which are shorter.
+-- lent for applying; or a rule and arguments as a packet, with less memory than document 01's program lends.
 pub data Input : Type 0 where
   reads : List ℕ → Input
   applies : Program → List (List ℕ) → ℕ → ℕ → ℕ → Input

@@ -29,6 +29,7 @@ pub record Translates (w : List ℕ) (u : ℕ) (s b : List ℕ) (v u′ : ℕ) :
   pub term : Term
   pub is-rule : rule b ≡ some term
   pub lays : Lays w u (ruleTree term) (translate w u s b) v u′
+  pub laid-is : translate w u s b ≡ laid w u s (ruleTree term)
   pub stack : translate w u s b .stack ≡ zeros s
 
 clash : {A : Type 0} {e : Refusal} {v u : ℕ} → Refused e ≡ Node v u → A
@@ -37,7 +38,7 @@ clash q = let n : _≡_ {A = ℕ} 0 1 = cc in absurd (omega arith)
 module _ (w : List ℕ) (u : ℕ) (s b : List ℕ) (v u′ : ℕ) where
   -- the outcome o of a rule's tree, as far as the checks have come
   Gives : Outcome Made → Type 0
-  Gives o = o .answer ≡ Node v u′ → (t : Term) × (rule b ≡ some t) × Lays w u (ruleTree t) o v u′ × (o .stack ≡ zeros s)
+  Gives o = o .answer ≡ Node v u′ → (t : Term) × (rule b ≡ some t) × Lays w u (ruleTree t) o v u′ × (o ≡ laid w u s (ruleTree t))
 
   from-rule : Sound (record { words = w; used = u }) → (r : Option Term) → rule b ≡ r → Gives (translateRule w u s r)
   unfolding translateRule stopped Gives
@@ -49,7 +50,7 @@ module _ (w : List ℕ) (u : ℕ) (s b : List ℕ) (v u′ : ℕ) where
       go true y h e = clash e
       go false true h e = clash e
       go false false h e =
-          (t, q, laid-gives w u s (ruleTree t) v u′ f (ltb-false (capacity w - u) (size (ruleTree t)) h) e, laid-stack w u s (ruleTree t))
+          (t, q, laid-gives w u s (ruleTree t) v u′ f (ltb-false (capacity w - u) (size (ruleTree t)) h) e, refl)
 
   from-entry : (c : Option Refusal) → atEntry true w u s ≡ c
       → unless c (λ e. whole (Refused e) w s) (translateRule w u s (rule b)) .answer ≡ Node v u′
@@ -63,7 +64,7 @@ module _ (w : List ℕ) (u : ℕ) (s b : List ℕ) (v u′ : ℕ) where
   translate-gives q =
       let r = from-entry (atEntry true w u s) refl q in
       let g = r .1 q in
-      record { entry = r .0; term = g .0; is-rule = g .1; lays = g .2; stack = g .3 }
+      record { entry = r .0; term = g .0; is-rule = g .1; lays = g .2; laid-is = g .3; stack = ap (λ (o : Outcome Made). o .stack) (g .3) ∙ laid-stack w u s (ruleTree (g .0)) }
 
 -- no refusal of Translate changes a table word
 refused-rule : (w : List ℕ) (u : ℕ) (s : List ℕ) (r : Option Term) (e : Refusal) → translateRule w u s r .answer ≡ Refused e → translateRule w u s r .table ≡ w

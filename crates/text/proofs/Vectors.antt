@@ -4,9 +4,17 @@ use Prim.Native.Nat.{ℕ}
 use mathlib.Core.Path.{_≡_, refl}
 use mathlib.Core.List.{List, [], _∷_, map}
 use Rattle.calculus.specs.Tree.{Tree, leaf, stem, fork}
+use Rattle.table.specs.Refusal.{number, refusedNumbers}
 use Rattle.table.specs.declared.Refusal.the-variants.{Frames, Out}
 use Rattle.text.specs.Text.{text, takeLeaf, takeStem, takeFork, takeDigit, pending, count, mostPending}
-use Rattle.text.specs.Write.{Room, left, lacks, next, spend, digits}
+use Rattle.text.specs.Write.{Room, left, lacks, next, spend, digits, writtenNumbers}
+use Rattle.text.specs.declared.Written.the-variants.{Digits, Refused}
+
+-- "A refusal returns its number, used as at entry, and 0 for node number, steps and digits."
+pub answers : (writtenNumbers 5 (Refused Out) ≡ record { refusal = 10; node = 0; used = 5; steps = 0; digits = 0 })
+    × (writtenNumbers 5 (Digits 6) ≡ record { refusal = 0; node = 0; used = 5; steps = 0; digits = 6 })
+unfolding writtenNumbers refusedNumbers number
+answers = (refl, refl)
 
 -- "10 if out is full" comes before "9 if the digit is 2": with no frame, a fork's digit lacks a byte first and a frame then
 pub full-first : (digits 0 0 (fork leaf leaf) 0 ≡ lacks Out) × (digits 0 0 (fork leaf leaf) 1 ≡ lacks Frames)
