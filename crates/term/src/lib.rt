@@ -3,36 +3,36 @@
 // A term without abstraction is a run of words in the lent stack, two words for a leaf less one, function part before argument. An abstraction
 // is written into the words of the nodes that are not made yet, and copied back; then the nodes are made over these words.
 ghost use mathlib.Core.Path.{_≡_};
-ghost use Prim.Native.Nat.{ℕ, _+_, _-_, _*_, _/_, _<_, _≤_};
+ghost use Prim.Native.Nat.{ℕ, _+_, _-_, _<_, _≤_};
 ghost use mathlib.Core.List.{[], _∷_};
 ghost use mathlib.Core.Option.{some};
 ghost use lib.ListN.{length, getD, take, drop};
 ghost use lib.Seq.{sets};
-ghost use Rattle.calculus.specs.Tree.{Tree, size};
+ghost use Rattle.calculus.specs.Tree.{Tree};
 ghost use Rattle.calculus.specs.Term.{Term};
-ghost use Rattle.calculus.specs.Bytes.{bytes as encoded, parse, rule};
+ghost use Rattle.calculus.specs.Bytes.{bytes, parse, rule};
 ghost use Rattle.calculus.specs.Abstraction.{Combination, bracket, term, ruleTree};
-ghost use Rattle.table.specs.Nodes.{Table, Sound, lay as layOut, capacity};
-ghost use Rattle.table.specs.Outcome.{whole, frames, laid};
+ghost use Rattle.table.specs.Nodes.{Sound, lay};
+ghost use Rattle.table.specs.Outcome.{whole, laid};
 ghost use Rattle.table.specs.Code.{placedBy};
 ghost use Rattle.term.specs.Words.{words, Holds, Written, BracketAt, BuildAt, Builds, LayAt, PlaceAt};
-ghost use Rattle.term.specs.Weight.{unit as unitOf, measured, sizeOf};
-ghost use Rattle.term.specs.Translate.{translateRule, translate as translated};
+ghost use Rattle.term.specs.Weight.{unit, measured, sizeOf};
+ghost use Rattle.term.specs.Translate.{translateRule, translate};
 use table::Checked;
 use table::Made;
 use table::NewNode;
 use table::Refusal;
 
 // What reading a term gives: the place after it, 0 where no term is, and what it counts.
-pub struct Measured {
-    pub next: usize,
-    pub weight: usize,
+struct Measured {
+    next: usize,
+    weight: usize,
 }
 
 // What a leaf counts under `depth` abstractions.
 fn unit(depth: usize) -> usize
     requires { ⌜ depth ≤ 16 ⌝ }
-    ensures { λ r. ⌜ r ≡ unitOf depth ⌝ }
+    ensures { λ r. ⌜ r ≡ unit depth ⌝ }
 {
     let mut u = 1;
     let mut i = 0;
@@ -138,127 +138,130 @@ fn rule_size(bytes: &[u8]) -> usize
 }
 
 // Four words from `q` on; the place after them.
-fn put4(d: &mut [u32], q: usize, a: u32, b: u32, c: u32, e: u32) -> usize
-    requires { ⌜ q + 4 ≤ length (now d) ⌝ }
-    ensures { λ r. ⌜ Written (now (d .entry)) q (a ∷ b ∷ c ∷ e ∷ []) r (now (d .exit)) ⌝ }
+fn put4(to: &mut [u32], q: usize, a: u32, b: u32, c: u32, d: u32) -> usize
+    requires { ⌜ q + 4 ≤ length (now to) ⌝ }
+    ensures { λ r. ⌜ Written (now (to .entry)) q (a ∷ b ∷ c ∷ d ∷ []) r (now (to .exit)) ⌝ }
 {
-    d[q] = a;
-    d[q + 1] = b;
-    d[q + 2] = c;
-    d[q + 3] = e;
+    to[q] = a;
+    to[q + 1] = b;
+    to[q + 2] = c;
+    to[q + 3] = d;
     q + 4
 }
 
 // Five words from `q` on; the place after them.
-fn put5(d: &mut [u32], q: usize, a: u32, b: u32, c: u32, e: u32, f: u32) -> usize
-    requires { ⌜ q + 5 ≤ length (now d) ⌝ }
-    ensures { λ r. ⌜ Written (now (d .entry)) q (a ∷ b ∷ c ∷ e ∷ f ∷ []) r (now (d .exit)) ⌝ }
+fn put5(to: &mut [u32], q: usize, a: u32, b: u32, c: u32, d: u32, e: u32) -> usize
+    requires { ⌜ q + 5 ≤ length (now to) ⌝ }
+    ensures { λ r. ⌜ Written (now (to .entry)) q (a ∷ b ∷ c ∷ d ∷ e ∷ []) r (now (to .exit)) ⌝ }
 {
-    d[q] = a;
-    d[q + 1] = b;
-    d[q + 2] = c;
-    d[q + 3] = e;
-    d[q + 4] = f;
+    to[q] = a;
+    to[q + 1] = b;
+    to[q + 2] = c;
+    to[q + 3] = d;
+    to[q + 4] = e;
     q + 5
 }
 
-// Writes from `q` on the bracket abstraction of the term whose words start at `p`; the place after it. No shortcut is taken.
-fn bracket_at(s: &[u32], p: usize, d: &mut [u32], q: usize) -> usize
-    requires { ⌜ BracketAt (now s) p (now d) q ⌝ }
-    ensures { λ r. ⌜ ((c : Combination) → Holds (now (s .entry)) p (words c) → Written (now (d .entry)) q (words (bracket c)) r (now (d .exit))) ⌝ }
+// Writes to `to` from `q` on the bracket abstraction of the term whose words start at `p` of `from`; the place after it. From Δ it is KΔ, from
+// the variable abstracted I, from another Ky, from uv Δ(Δv′)u′. No shortcut is taken.
+fn bracket_at(from: &[u32], p: usize, to: &mut [u32], q: usize) -> usize
+    requires { ⌜ BracketAt (now from) p (now to) q ⌝ }
+    ensures { λ r. ⌜ ((c : Combination) → Holds (now (from .entry)) p (words c) → Written (now (to .entry)) q (words (bracket c)) r (now (to .exit))) ⌝ }
 {
-    let x = s[p];
+    let x = from[p];
     if x == 0 {
-        return put5(d, q, 6, 2, 0, 0, 0);
+        return put5(to, q, 6, 2, 0, 0, 0);
     }
     if x == 1 {
-        let e = put5(d, q, 10, 2, 0, 2, 0);
-        return put4(d, e, 0, 2, 0, 0);
+        let e = put5(to, q, 10, 2, 0, 2, 0);
+        return put4(to, e, 0, 2, 0, 0);
     }
     if x % 2 == 1 {
-        return put5(d, q, 6, 2, 0, 0, x - 2);
+        return put5(to, q, 6, 2, 0, 0, x - 2);
     }
     let v = p + 1 + (x / 2) as usize;
-    let e = bracket_at(s, v, d, q + 5);
-    put5(d, q, (2 * (e - q - 1)) as u32, 2, 0, 2, 0);
-    bracket_at(s, p + 1, d, e)
+    let e = bracket_at(from, v, to, q + 5);
+    put5(to, q, (2 * (e - q - 1)) as u32, 2, 0, 2, 0);
+    bracket_at(from, p + 1, to, e)
 }
 
-// Copies `n` words of `s` from `from` on to `d` from `at` on.
-fn copy(s: &[u32], from: usize, n: usize, d: &mut [u32], at: usize)
-    requires { ⌜ (from + n ≤ length (now s)) × (at + n ≤ length (now d)) ⌝ }
-    ensures { λ _. ⌜ now (d .exit) ≡ sets (now (d .entry)) at (take n (drop from (now (s .entry)))) ⌝ }
+// Copies `n` words of `from` from `p` on to `to` from `q` on.
+fn copy(from: &[u32], p: usize, n: usize, to: &mut [u32], q: usize)
+    requires { ⌜ (p + n ≤ length (now from)) × (q + n ≤ length (now to)) ⌝ }
+    ensures { λ _. ⌜ now (to .exit) ≡ sets (now (to .entry)) q (take n (drop p (now (from .entry)))) ⌝ }
 {
     let mut i = 0;
     while i < n {
-        d[at + i] = s[from + i];
+        to[q + i] = from[p + i];
         i += 1;
     }
 }
 
 // What building a term's words gives: the places after its bytes and after its words.
-pub struct Built {
-    pub next: usize,
-    pub end: usize,
+struct Built {
+    next: usize,
+    end: usize,
 }
 
-// Writes to `s` from `w` on the words of the translation of the term that starts at `at`. The words of `d` from `q` on are work space.
-fn build(b: &[u8], at: usize, s: &mut [u32], w: usize, d: &mut [u32], q: usize) -> Built
-    requires { ⌜ BuildAt (now b) at (now s) w (now d) q ⌝ }
-    ensures { λ r. ⌜ ((t : Term) → Holds (now (b .entry)) at (encoded t)
-        → Builds at w q t (r .next) (r .end) (now (s .entry)) (now (s .exit)) (now (d .entry)) (now (d .exit))) ⌝ }
+// Writes to the stack from `w` on the words of the translation of the term that starts at `at`. The table's words from `q` on, those of nodes
+// that are not made yet, take each abstraction until it is copied over its body.
+fn build(rule: &[u8], at: usize, stack: &mut [u32], w: usize, table: &mut [u32], q: usize) -> Built
+    requires { ⌜ BuildAt (now rule) at (now stack) w (now table) q ⌝ }
+    ensures { λ r. ⌜ ((t : Term) → Holds (now (rule .entry)) at (bytes t)
+        → Builds at w q t (r .next) (r .end) (now (stack .entry)) (now (stack .exit)) (now (table .entry)) (now (table .exit))) ⌝ }
 {
-    let x = b[at];
+    let x = rule[at];
     if x == 0 {
-        s[w] = 0;
+        stack[w] = 0;
         return Built {
             next: at + 1,
             end: w + 1,
         };
     }
     if x == 1 {
-        let f = build(b, at + 1, s, w + 1, d, q);
+        let f = build(rule, at + 1, stack, w + 1, table, q);
         let mid = f.next;
         let e = f.end;
-        s[w] = (2 * (e - w - 1)) as u32;
-        return build(b, mid, s, e, d, q);
+        stack[w] = (2 * (e - w - 1)) as u32;
+        return build(rule, mid, stack, e, table, q);
     }
     if x == 2 {
-        let body = build(b, at + 1, s, w, d, q);
-        let e = bracket_at(s, w, d, q);
+        let body = build(rule, at + 1, stack, w, table, q);
+        let e = bracket_at(stack, w, table, q);
         let n = e - q;
-        copy(d, q, n, s, w);
+        copy(table, q, n, stack, w);
         return Built {
             next: body.next,
             end: w + n,
         };
     }
-    s[w] = 2 * (b[at + 1] as u32) + 1;
+    stack[w] = 2 * (rule[at + 1] as u32) + 1;
     Built {
         next: at + 2,
         end: w + 1,
     }
 }
 
-// Lays out the tree whose term's words start at `p`, in new nodes from `n` on.
-fn lay(s: &[u32], p: usize, d: &mut [u32], n: usize) -> NewNode
-    requires { ⌜ LayAt (now s) p (now d) n ⌝ }
-    ensures { λ r. ⌜ ((t : Tree) → Holds (now (s .entry)) p (words (term t))
-        → placedBy r (now (d .exit)) ≡ layOut (record { words = now (d .entry); used = n }) t) ⌝ }
+// Lays out the tree whose term's words start at `p` of the stack: second branch, first branch, then the node.
+fn lay(stack: &[u32], p: usize, table: &mut [u32], used: usize) -> NewNode
+    requires { ⌜ LayAt (now stack) p (now table) used ⌝ }
+    ensures { λ r. ⌜ ((t : Tree) → Holds (now (stack .entry)) p (words (term t))
+        → placedBy r (now (table .exit)) ≡ lay (record { words = now (table .entry); used = used }) t) ⌝ }
 {
-    let x = s[p];
+    let x = stack[p];
     if x == 0 {
-        return table::new_node(d, n, 0, 0);
+        return table::new_node(table, used, 0, 0);
     }
     if x == 2 {
-        let only = lay(s, p + 2, d, n);
-        return table::new_node(d, only.used, only.node + 1, 0);
+        let only = lay(stack, p + 2, table, used);
+        return table::new_node(table, only.used, only.node + 1, 0);
     }
+    let u = p + 3;
     let v = p + 1 + (x / 2) as usize;
-    let second = lay(s, v, d, n);
-    let used = second.used;
-    let first = lay(s, p + 3, d, used);
-    table::new_node(d, first.used, first.node + 1, second.node + 1)
+    let second = lay(stack, v, table, used);
+    let next = second.used;
+    let first = lay(stack, u, table, next);
+    table::new_node(table, first.used, first.node + 1, second.node + 1)
 }
 
 // Makes the nodes of the rule's tree, for which there is room.
@@ -269,8 +272,8 @@ fn place(table: &mut [u32], used: usize, stack: &mut [u32], bytes: &[u8]) -> Mad
 {
     build(bytes, 0, stack, 0, table, used * 2);
     let root = lay(stack, 0, table, used);
-    let words = stack.len();
-    table::clear(stack, 0, words);
+    let all = stack.len();
+    table::clear(stack, 0, all);
     Made::Node {
         node: root.node,
         used: root.used,
@@ -302,7 +305,7 @@ fn translate_rule(table: &mut [u32], used: usize, stack: &mut [u32], bytes: &[u8
 // Translates a rule: its tree's root and the new count of used nodes, or a refusal.
 pub fn translate(table: &mut [u32], used: usize, stack: &mut [u32], bytes: &[u8]) -> Made
     ensures { λ r. ⌜ whole r (now (table .exit)) (now (stack .exit))
-        ≡ translated (now (table .entry)) used (now (stack .entry)) (now (bytes .entry)) ⌝ }
+        ≡ translate (now (table .entry)) used (now (stack .entry)) (now (bytes .entry)) ⌝ }
 {
     let entry = table::check(true, table, used, stack);
     match entry {

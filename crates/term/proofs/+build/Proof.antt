@@ -31,11 +31,11 @@ claims t = (build-below t, build.Post, bracket-at-reads.Asked, bracket-at-reads.
 build-shared-slice-read-x : (t : ℕ) → build-lts.Need-shared-slice-read-x (claims t) (build-at t) build.Post
 build-shared-slice-read-x t c = begins _ _ _ (c .before .before .before .before .pre .1 .stands)
 
-build-mul-s : (t : ℕ) → build-lts.Need-mul-s (claims t) (build-at t) build.Post
-build-mul-s t c = let p = c .before .before .before .before .before .pre .1 in omega (arith, p .room, p .stack, run-pos (p .read))
+build-mul-stack : (t : ℕ) → build-lts.Need-mul-stack (claims t) (build-at t) build.Post
+build-mul-stack t c = let p = c .before .before .before .before .before .pre .1 in omega (arith, p .room, p .stack, run-pos (p .read))
 
-build-slice-write-s : (t : ℕ) → build-lts.Need-slice-write-s (claims t) (build-at t) build.Post
-build-slice-write-s t c = let p = c .before .before .before .before .before .pre .1 in omega (arith, p .room, run-pos (p .read))
+build-slice-write-stack : (t : ℕ) → build-lts.Need-slice-write-stack (claims t) (build-at t) build.Post
+build-slice-write-stack t c = let p = c .before .before .before .before .before .pre .1 in omega (arith, p .room, run-pos (p .read))
 
 build-add-t17 : (t : ℕ) → build-lts.Need-add-t17 (claims t) (build-at t) build.Post
 build-add-t17 t c = omega (arith, begins _ _ _ (c .before .before .before .before .before .pre .1 .stands))
@@ -70,33 +70,33 @@ build-build-requires t c κs =
       },
     )
 
-build-sub-s : (t : ℕ) → build-lts.Need-sub-s (claims t) (build-at t) build.Post
-build-sub-s t c =
+build-sub-stack : (t : ℕ) → build-lts.Need-sub-stack (claims t) (build-at t) build.Post
+build-sub-stack t c =
     let k = is-app _ _ _ (c .before .before .before .before .before .before .before .before .before .before .before .before .before .pre .1 .stands) (c .before .before .before .before .before .before .before .if2 .taken) in
     omega (arith, c .before .before .before .before .build .ensures (k .function) (k .first) .written .end)
 
-build-sub-s-2 : (t : ℕ) → build-lts.Need-sub-s-2 (claims t) (build-at t) build.Post
-build-sub-s-2 t c =
+build-sub-stack-2 : (t : ℕ) → build-lts.Need-sub-stack-2 (claims t) (build-at t) build.Post
+build-sub-stack-2 t c =
     let k = is-app _ _ _ (c .before .before .before .before .before .before .before .before .before .before .before .before .before .pre .1 .stands) (c .before .before .before .before .before .before .before .if2 .taken) in
     omega (arith, c .before .before .before .before .build .ensures (k .function) (k .first) .written .end)
 
-build-mul-s-2 : (t : ℕ) → build-lts.Need-mul-s-2 (claims t) (build-at t) build.Post
-build-mul-s-2 t c =
+build-mul-stack-2 : (t : ℕ) → build-lts.Need-mul-stack-2 (claims t) (build-at t) build.Post
+build-mul-stack-2 t c =
     let p = c .before .before .before .before .before .before .before .before .before .before .before .before .before .pre .1 in
     let k = is-app _ _ _ (p .stands) (c .before .before .before .before .before .before .before .if2 .taken) in
     omega (arith, c .before .before .before .before .build .ensures (k .function) (k .first) .written .end, p .room, p .stack, app-run k)
 
-build-cast-s : (t : ℕ) → build-lts.Need-cast-s (claims t) (build-at t) build.Post
-build-cast-s t c =
+build-cast-stack : (t : ℕ) → build-lts.Need-cast-stack (claims t) (build-at t) build.Post
+build-cast-stack t c =
     let p = c .before .before .before .before .before .before .before .before .before .before .before .before .before .pre .1 in
     let k = is-app _ _ _ (p .stands) (c .before .before .before .before .before .before .before .if2 .taken) in
     omega (arith, c .before .before .before .before .build .ensures (k .function) (k .first) .written .end, p .room, p .stack, app-run k)
 
-build-mul-s-3 : (t : ℕ) → build-lts.Need-mul-s-3 (claims t) (build-at t) build.Post
-build-mul-s-3 t c = let p = c .before .before .before .before .before .before .before .before .before .before .before .before .before .pre .1 in omega (arith, p .room, p .stack, run-pos (p .read))
+build-mul-stack-3 : (t : ℕ) → build-lts.Need-mul-stack-3 (claims t) (build-at t) build.Post
+build-mul-stack-3 t c = let p = c .before .before .before .before .before .before .before .before .before .before .before .before .before .pre .1 in omega (arith, p .room, p .stack, run-pos (p .read))
 
-build-slice-write-s-2 : (t : ℕ) → build-lts.Need-slice-write-s-2 (claims t) (build-at t) build.Post
-build-slice-write-s-2 t c = let p = c .before .before .before .before .before .before .before .before .before .before .before .before .before .pre .1 in omega (arith, p .room, run-pos (p .read), c .before .before .before .before .build .kept .1 .1 .0)
+build-slice-write-stack-2 : (t : ℕ) → build-lts.Need-slice-write-stack-2 (claims t) (build-at t) build.Post
+build-slice-write-stack-2 t c = let p = c .before .before .before .before .before .before .before .before .before .before .before .before .before .pre .1 in omega (arith, p .room, run-pos (p .read), c .before .before .before .before .build .kept .1 .1 .0)
 
 build-build-requires-2 : (t : ℕ) → build-lts.Need-build-requires-2 (claims t) (build-at t) build.Post
 build-build-requires-2 t c κs =
@@ -191,26 +191,26 @@ build-returns-3 t c = λ x h.
     let e = unique _ _ x (p .read) h (p .stands) in
     build-abs _ _ _ _ _ _ x h _ _ _ _ _ _ _ (c .before .before .before .before .before .before .before .before .before .before .before .before .before .before .before .before .before .if3 .taken) (rw e (p .room)) (rw e (p .space)) (c .before .before .before .before .before .before .before .before .before .before .before .before .before .before .build3 .kept .1 .1 .1 .1 .0) (c .before .before .before .before .before .before .before .before .before .before .before .before .before .before .build3 .ensures) (c .before .before .before .before .before .before .before .bracket-at .ensures) (c .before .before .copy .ensures)
 
-build-add-s : (t : ℕ) → build-lts.Need-add-s (claims t) (build-at t) build.Post
-build-add-s t c = omega (arith, begins _ _ _ (c .before .before .before .before .before .before .before .pre .1 .stands))
+build-add-stack : (t : ℕ) → build-lts.Need-add-stack (claims t) (build-at t) build.Post
+build-add-stack t c = omega (arith, begins _ _ _ (c .before .before .before .before .before .before .before .pre .1 .stands))
 
-build-shared-slice-read-s : (t : ℕ) → build-lts.Need-shared-slice-read-s (claims t) (build-at t) build.Post
-build-shared-slice-read-s t c = is-var _ _ _ (c .before .before .before .before .before .before .before .before .pre .1 .stands) (c .before .before .before .if1 .left) (c .before .before .if2 .left) (c .before .if3 .left) .within
+build-shared-slice-read-stack : (t : ℕ) → build-lts.Need-shared-slice-read-stack (claims t) (build-at t) build.Post
+build-shared-slice-read-stack t c = is-var _ _ _ (c .before .before .before .before .before .before .before .before .pre .1 .stands) (c .before .before .before .if1 .left) (c .before .before .if2 .left) (c .before .if3 .left) .within
 
-build-cast-s-2 : (t : ℕ) → build-lts.Need-cast-s-2 (claims t) (build-at t) build.Post
-build-cast-s-2 t c = omega (arith, c .shared-slice-known3 .given (c .before .before .before .before .before .before .before .before .args .at + 1))
+build-cast-stack-2 : (t : ℕ) → build-lts.Need-cast-stack-2 (claims t) (build-at t) build.Post
+build-cast-stack-2 t c = omega (arith, c .shared-slice-known3 .given (c .before .before .before .before .before .before .before .before .args .at + 1))
 
-build-mul-s-4 : (t : ℕ) → build-lts.Need-mul-s-4 (claims t) (build-at t) build.Post
-build-mul-s-4 t c = omega (arith, c .shared-slice-known3 .given (c .before .before .before .before .before .before .before .before .args .at + 1))
+build-mul-stack-4 : (t : ℕ) → build-lts.Need-mul-stack-4 (claims t) (build-at t) build.Post
+build-mul-stack-4 t c = omega (arith, c .shared-slice-known3 .given (c .before .before .before .before .before .before .before .before .args .at + 1))
 
-build-add-s-2 : (t : ℕ) → build-lts.Need-add-s-2 (claims t) (build-at t) build.Post
-build-add-s-2 t c = omega (arith, c .shared-slice-known3 .given (c .before .before .before .before .before .before .before .before .args .at + 1))
+build-add-stack-2 : (t : ℕ) → build-lts.Need-add-stack-2 (claims t) (build-at t) build.Post
+build-add-stack-2 t c = omega (arith, c .shared-slice-known3 .given (c .before .before .before .before .before .before .before .before .args .at + 1))
 
-build-mul-s-5 : (t : ℕ) → build-lts.Need-mul-s-5 (claims t) (build-at t) build.Post
-build-mul-s-5 t c = let p = c .before .before .before .before .before .before .before .before .pre .1 in omega (arith, p .room, p .stack, run-pos (p .read))
+build-mul-stack-5 : (t : ℕ) → build-lts.Need-mul-stack-5 (claims t) (build-at t) build.Post
+build-mul-stack-5 t c = let p = c .before .before .before .before .before .before .before .before .pre .1 in omega (arith, p .room, p .stack, run-pos (p .read))
 
-build-slice-write-s-3 : (t : ℕ) → build-lts.Need-slice-write-s-3 (claims t) (build-at t) build.Post
-build-slice-write-s-3 t c = let p = c .before .before .before .before .before .before .before .before .pre .1 in omega (arith, p .room, run-pos (p .read))
+build-slice-write-stack-3 : (t : ℕ) → build-lts.Need-slice-write-stack-3 (claims t) (build-at t) build.Post
+build-slice-write-stack-3 t c = let p = c .before .before .before .before .before .before .before .before .pre .1 in omega (arith, p .room, run-pos (p .read))
 
 build-add-t48 : (t : ℕ) → build-lts.Need-add-t48 (claims t) (build-at t) build.Post
 build-add-t48 t c = omega (arith, is-var _ _ _ (c .before .before .before .before .before .before .before .before .pre .1 .stands) (c .before .before .before .if1 .left) (c .before .before .if2 .left) (c .before .if3 .left) .within)
@@ -229,8 +229,8 @@ pub +build-spec : {M : Type 1} → statement M
     (build-at t)
     build.Post
     (build-shared-slice-read-x t)
-    (build-mul-s t)
-    (build-slice-write-s t)
+    (build-mul-stack t)
+    (build-slice-write-stack t)
     (build-add-t17 t)
     (build-add-t19 t)
     (build-same-length t)
@@ -238,12 +238,12 @@ pub +build-spec : {M : Type 1} → statement M
     (build-add-build t)
     (build-add-build-2 t)
     (build-build-requires t)
-    (build-sub-s t)
-    (build-sub-s-2 t)
-    (build-mul-s-2 t)
-    (build-cast-s t)
-    (build-mul-s-3 t)
-    (build-slice-write-s-2 t)
+    (build-sub-stack t)
+    (build-sub-stack-2 t)
+    (build-mul-stack-2 t)
+    (build-cast-stack t)
+    (build-mul-stack-3 t)
+    (build-slice-write-stack-2 t)
     (build-build-requires-2 t)
     (build-same-length-2 t)
     (build-same-length-3 t)
@@ -257,13 +257,13 @@ pub +build-spec : {M : Type 1} → statement M
     (build-same-length-4 t)
     (build-same-length-5 t)
     (build-returns-3 t)
-    (build-add-s t)
-    (build-shared-slice-read-s t)
-    (build-cast-s-2 t)
-    (build-mul-s-4 t)
-    (build-add-s-2 t)
-    (build-mul-s-5 t)
-    (build-slice-write-s-3 t)
+    (build-add-stack t)
+    (build-shared-slice-read-stack t)
+    (build-cast-stack-2 t)
+    (build-mul-stack-4 t)
+    (build-add-stack-2 t)
+    (build-mul-stack-5 t)
+    (build-slice-write-stack-3 t)
     (build-add-t48 t)
     (build-add-t53 t)
     (build-same-length-6 t)

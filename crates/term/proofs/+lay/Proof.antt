@@ -75,6 +75,11 @@ lay-same-length-2 t c = c .before .before .new-node2 .kept .0 ∙ c .before .bef
 lay-returns-2 : (t : ℕ) → lay-lts.Need-returns-2 (claims t) (lay-at t) lay.Post
 lay-returns-2 t c = λ x h. lay-stem _ _ _ _ x h _ _ _ _ (c .before .before .before .before .before .before .before .before .before .if2 .taken) (c .before .before .before .before .before .before .before .lay .ensures) (c .before .before .new-node2 .ensures)
 
+lay-add-u : (t : ℕ) → lay-lts.Need-add-u (claims t) (lay-at t) lay.Post
+lay-add-u t c =
+    let k = is-fork _ _ _ (c .before .before .before .before .before .pre .1 .stands) (c .before .if1 .left) (c .if2 .left) in
+    omega (arith, begins _ _ _ (k .first), c .before .before .before .before .before .good)
+
 lay-add-v : (t : ℕ) → lay-lts.Need-add-v (claims t) (lay-at t) lay.Post
 lay-add-v t c = omega (arith, begins _ _ _ (c .before .before .before .before .before .pre .1 .stands))
 
@@ -93,11 +98,6 @@ lay-lay-requires-2 t c κs =
       omega (arith, begins _ _ _ (p .stands), c .before .before .before .before .before .before .pre .0),
       record { tree = k .further; stands = k .second; room = omega (arith, p .room, k .is); short = p .short },
     )
-
-lay-add-lay-2 : (t : ℕ) → lay-lts.Need-add-lay-2 (claims t) (lay-at t) lay.Post
-lay-add-lay-2 t c =
-    let k = is-fork _ _ _ (c .before .before .before .before .before .before .before .before .before .pre .1 .stands) (c .before .before .before .before .before .if1 .left) (c .before .before .before .before .if2 .left) in
-    omega (arith, begins _ _ _ (k .first), c .before .before .before .before .before .before .before .before .before .good)
 
 lay-lay-requires-3 : (t : ℕ) → lay-lts.Need-lay-requires-3 (claims t) (lay-at t) lay.Post
 lay-lay-requires-3 t c κs =
@@ -163,11 +163,11 @@ pub +lay-spec : {M : Type 1} → statement M
     (lay-new-node-requires-2 t)
     (lay-same-length-2 t)
     (lay-returns-2 t)
+    (lay-add-u t)
     (lay-add-v t)
     (lay-cast-v t)
     (lay-add-v-2 t)
     (lay-lay-requires-2 t)
-    (lay-add-lay-2 t)
     (lay-lay-requires-3 t)
     (lay-add-new-node-2 t)
     (lay-add-new-node-3 t)

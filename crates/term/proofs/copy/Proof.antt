@@ -10,31 +10,31 @@ use Rattle.term.proofs.copy.Statement.{statement}
 use Rattle.term.proofs.copy.Tie as tie
 
 abbrev Inv-loop : tie.InvT-loop
-Inv-loop s from n d₀ at i₀ d i = (i ≤ n) × (d ≡ sets d₀ at (take i (drop from s))) × (length d ≡ length d₀)
+Inv-loop from p n to₀ q i₀ to i = (i ≤ n) × (to ≡ sets to₀ q (take i (drop p from))) × (length to ≡ length to₀)
 
 abbrev μ-loop : tie.MeasureT-loop
-μ-loop s from n d₀ at i₀ d i = n - i
+μ-loop from p n to₀ q i₀ to i = n - i
 
 loop-holds : tie.Need-loop-holds Inv-loop μ-loop
 loop-holds c = (omega arith, refl, refl)
 
-add-d : tie.Need-add-d Inv-loop μ-loop
-add-d c = omega arith
+add-to : tie.Need-add-to Inv-loop μ-loop
+add-to c = omega arith
 
-mul-d : tie.Need-mul-d Inv-loop μ-loop
-mul-d c = omega arith
+mul-to : tie.Need-mul-to Inv-loop μ-loop
+mul-to c = omega arith
 
-shared-slice-read-d : tie.Need-shared-slice-read-d Inv-loop μ-loop
-shared-slice-read-d c = omega arith
+shared-slice-read-to : tie.Need-shared-slice-read-to Inv-loop μ-loop
+shared-slice-read-to c = omega arith
 
-add-d-2 : tie.Need-add-d-2 Inv-loop μ-loop
-add-d-2 c = omega arith
+add-to-2 : tie.Need-add-to-2 Inv-loop μ-loop
+add-to-2 c = omega arith
 
-mul-d-2 : tie.Need-mul-d-2 Inv-loop μ-loop
-mul-d-2 c = omega arith
+mul-to-2 : tie.Need-mul-to-2 Inv-loop μ-loop
+mul-to-2 c = omega arith
 
-slice-write-d : tie.Need-slice-write-d Inv-loop μ-loop
-slice-write-d c = omega arith
+slice-write-to : tie.Need-slice-write-to Inv-loop μ-loop
+slice-write-to c = omega arith
 
 add-i : tie.Need-add-i Inv-loop μ-loop
 add-i c = omega arith
@@ -48,8 +48,8 @@ loop-again c =
     let i = c .before .before .loop .i in
     let a = c .before .before .before .args in (
       omega arith,
-      ap (λ (l : List ℕ). set l (a .at + i) (getD (a .s .now) (a .from + i) 0)) (v .1)
-          ∙ copy-step (a .s .now) (a .d .now) (a .from) (a .at) i (omega arith),
+      ap (λ (l : List ℕ). set l (a .q + i) (getD (a .from .now) (a .p + i) 0)) (v .1)
+          ∙ copy-step (a .from .now) (a .to .now) (a .p) (a .q) i (omega arith),
       simp length-set (v .2),
     )
 
@@ -60,7 +60,7 @@ returns : tie.Need-returns Inv-loop μ-loop
 returns c =
     let a = c .before .before .args in
     let e : c .before .loop .i ≡ a .n = omega arith in
-    c .before .loop .inv .1 ∙ ap (λ (k : ℕ). sets (a .d .now) (a .at) (take k (drop (a .from) (a .s .now)))) e
+    c .before .loop .inv .1 ∙ ap (λ (k : ℕ). sets (a .to .now) (a .q) (take k (drop (a .p) (a .from .now)))) e
 
 pub copy-spec : {M : Type 1} → statement M
 copy-spec =
@@ -69,12 +69,12 @@ copy-spec =
     Inv-loop
     μ-loop
     loop-holds
-    add-d
-    mul-d
-    shared-slice-read-d
-    add-d-2
-    mul-d-2
-    slice-write-d
+    add-to
+    mul-to
+    shared-slice-read-to
+    add-to-2
+    mul-to-2
+    slice-write-to
     add-i
     loop-less
     loop-again
