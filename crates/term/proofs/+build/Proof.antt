@@ -57,9 +57,10 @@ build-add-build-2 t c = let p = c .before .before .before .before .before .befor
 
 build-build-requires : (t : ℕ) → build-lts.Need-build-requires (claims t) (build-at t) build.Post
 build-build-requires t c κs =
-    let p = c .before .before .before .before .before .before .before .before .pre .1 in
+    let c₁ = c .before .before .before .before .before .before .before .before in
+    let p = c₁ .pre .1 in
     let k = is-app _ _ _ (p .stands) (c .before .before .if2 .taken) in (
-      omega (arith, begins _ _ _ (p .stands), c .before .before .before .before .before .before .before .before .pre .0),
+      omega (arith, begins _ _ _ (p .stands), c₁ .pre .0),
       record {
         read = k .function;
         stands = k .first;
@@ -72,40 +73,58 @@ build-build-requires t c κs =
 
 build-sub-stack : (t : ℕ) → build-lts.Need-sub-stack (claims t) (build-at t) build.Post
 build-sub-stack t c =
-    let k = is-app _ _ _ (c .before .before .before .before .before .before .before .before .before .before .before .before .before .pre .1 .stands) (c .before .before .before .before .before .before .before .if2 .taken) in
-    omega (arith, c .before .before .before .before .build .ensures (k .function) (k .first) .written .end)
+    let c₁ = c .before .before .before .before in
+    let c₂ = c₁ .before .before .before in
+    let c₃ = c₂ .before .before .before .before .before .before in
+    let k = is-app _ _ _ (c₃ .pre .1 .stands) (c₂ .if2 .taken) in
+    omega (arith, c₁ .build .ensures (k .function) (k .first) .written .end)
 
 build-sub-stack-2 : (t : ℕ) → build-lts.Need-sub-stack-2 (claims t) (build-at t) build.Post
 build-sub-stack-2 t c =
-    let k = is-app _ _ _ (c .before .before .before .before .before .before .before .before .before .before .before .before .before .pre .1 .stands) (c .before .before .before .before .before .before .before .if2 .taken) in
-    omega (arith, c .before .before .before .before .build .ensures (k .function) (k .first) .written .end)
+    let c₁ = c .before .before .before .before in
+    let c₂ = c₁ .before .before .before in
+    let c₃ = c₂ .before .before .before .before .before .before in
+    let k = is-app _ _ _ (c₃ .pre .1 .stands) (c₂ .if2 .taken) in
+    omega (arith, c₁ .build .ensures (k .function) (k .first) .written .end)
 
 build-mul-stack-2 : (t : ℕ) → build-lts.Need-mul-stack-2 (claims t) (build-at t) build.Post
 build-mul-stack-2 t c =
-    let p = c .before .before .before .before .before .before .before .before .before .before .before .before .before .pre .1 in
-    let k = is-app _ _ _ (p .stands) (c .before .before .before .before .before .before .before .if2 .taken) in
-    omega (arith, c .before .before .before .before .build .ensures (k .function) (k .first) .written .end, p .room, p .stack, app-run k)
+    let c₁ = c .before .before .before .before in
+    let c₂ = c₁ .before .before .before in
+    let c₃ = c₂ .before .before .before .before .before .before in
+    let p = c₃ .pre .1 in
+    let k = is-app _ _ _ (p .stands) (c₂ .if2 .taken) in
+    omega (arith, c₁ .build .ensures (k .function) (k .first) .written .end, p .room, p .stack, app-run k)
 
 build-cast-stack : (t : ℕ) → build-lts.Need-cast-stack (claims t) (build-at t) build.Post
 build-cast-stack t c =
-    let p = c .before .before .before .before .before .before .before .before .before .before .before .before .before .pre .1 in
-    let k = is-app _ _ _ (p .stands) (c .before .before .before .before .before .before .before .if2 .taken) in
-    omega (arith, c .before .before .before .before .build .ensures (k .function) (k .first) .written .end, p .room, p .stack, app-run k)
+    let c₁ = c .before .before .before .before in
+    let c₂ = c₁ .before .before .before in
+    let c₃ = c₂ .before .before .before .before .before .before in
+    let p = c₃ .pre .1 in
+    let k = is-app _ _ _ (p .stands) (c₂ .if2 .taken) in
+    omega (arith, c₁ .build .ensures (k .function) (k .first) .written .end, p .room, p .stack, app-run k)
 
 build-mul-stack-3 : (t : ℕ) → build-lts.Need-mul-stack-3 (claims t) (build-at t) build.Post
 build-mul-stack-3 t c = let p = c .before .before .before .before .before .before .before .before .before .before .before .before .before .pre .1 in omega (arith, p .room, p .stack, run-pos (p .read))
 
 build-slice-write-stack-2 : (t : ℕ) → build-lts.Need-slice-write-stack-2 (claims t) (build-at t) build.Post
-build-slice-write-stack-2 t c = let p = c .before .before .before .before .before .before .before .before .before .before .before .before .before .pre .1 in omega (arith, p .room, run-pos (p .read), c .before .before .before .before .build .kept .1 .1 .0)
+build-slice-write-stack-2 t c =
+    let c₁ = c .before .before .before .before in
+    let c₂ = c₁ .before .before .before .before .before .before .before .before .before in
+    let p = c₂ .pre .1 in omega (arith, p .room, run-pos (p .read), c₁ .build .kept .1 .1 .0)
 
 build-build-requires-2 : (t : ℕ) → build-lts.Need-build-requires-2 (claims t) (build-at t) build.Post
 build-build-requires-2 t c κs =
-    let p = c .before .before .before .before .before .before .before .before .before .before .before .before .before .before .before .pre .1 in
-    let k = is-app _ _ _ (p .stands) (c .before .before .before .before .before .before .before .before .before .if2 .taken) in
-    let f = c .before .before .before .before .before .before .build .ensures (k .function) (k .first) in
-    let s = c .before .before .before .before .before .before .build .kept .1 .1 .0 in
-    let d = c .before .before .before .before .before .before .build .kept .1 .1 .1 .1 .0 in (
-      omega (arith, f .read, begins _ _ _ (p .stands), c .before .before .before .before .before .before .before .before .before .before .before .before .before .before .before .pre .0),
+    let c₁ = c .before .before .before .before .before .before in
+    let c₂ = c₁ .before .before .before in
+    let c₃ = c₂ .before .before .before .before .before .before in
+    let p = c₃ .pre .1 in
+    let k = is-app _ _ _ (p .stands) (c₂ .if2 .taken) in
+    let f = c₁ .build .ensures (k .function) (k .first) in
+    let s = c₁ .build .kept .1 .1 .0 in
+    let d = c₁ .build .kept .1 .1 .1 .1 .0 in (
+      omega (arith, f .read, begins _ _ _ (p .stands), c₃ .pre .0),
       record {
         read = k .argument;
         stands = rw (f .read) (k .second);
@@ -117,23 +136,34 @@ build-build-requires-2 t c κs =
     )
 
 build-same-length-2 : (t : ℕ) → build-lts.Need-same-length-2 (claims t) (build-at t) build.Post
-build-same-length-2 t c = c .before .before .before .before .build2 .kept .1 .1 .0 ∙ simp length-set (c .before .before .before .before .before .before .before .before .before .before .before .build .kept .1 .1 .0)
+build-same-length-2 t c =
+    let c₁ = c .before .before .before .before in
+    let c₂ = c₁ .before .before .before .before .before .before .before in
+    c₁ .build2 .kept .1 .1 .0 ∙ simp length-set (c₂ .build .kept .1 .1 .0)
 
 build-same-length-3 : (t : ℕ) → build-lts.Need-same-length-3 (claims t) (build-at t) build.Post
-build-same-length-3 t c = c .before .before .before .before .build2 .kept .1 .1 .1 .1 .0 ∙ c .before .before .before .before .before .before .before .before .before .before .before .build .kept .1 .1 .1 .1 .0
+build-same-length-3 t c =
+    let c₁ = c .before .before .before .before in
+    let c₂ = c₁ .before .before .before .before .before .before .before in
+    c₁ .build2 .kept .1 .1 .1 .1 .0 ∙ c₂ .build .kept .1 .1 .1 .1 .0
 
 build-returns-2 : (t : ℕ) → build-lts.Need-returns-2 (claims t) (build-at t) build.Post
-build-returns-2 t c = λ x h. build-app _ _ _ _ _ _ x h _ _ _ _ _ _ _ _ (c .before .before .before .before .before .before .before .before .before .before .before .before .before .before .if2 .taken) (c .before .before .before .before .before .before .before .before .before .before .before .build .ensures) (c .before .before .before .before .build2 .ensures)
+build-returns-2 t c = λ x h.
+    let c₁ = c .before .before .before .before in
+    let c₂ = c₁ .before .before .before .before .before .before .before in
+    let c₃ = c₂ .before .before .before in
+    build-app _ _ _ _ _ _ x h _ _ _ _ _ _ _ _ (c₃ .if2 .taken) (c₂ .build .ensures) (c₁ .build2 .ensures)
 
 build-add-build-3 : (t : ℕ) → build-lts.Need-add-build-3 (claims t) (build-at t) build.Post
 build-add-build-3 t c = omega (arith, begins _ _ _ (c .before .before .before .before .before .before .before .pre .1 .stands))
 
 build-build-requires-3 : (t : ℕ) → build-lts.Need-build-requires-3 (claims t) (build-at t) build.Post
 build-build-requires-3 t c κs =
-    let p = c .before .before .before .before .before .before .before .before .before .pre .1 in
+    let c₁ = c .before .before .before .before .before .before .before .before .before in
+    let p = c₁ .pre .1 in
     let k = is-abs _ _ _ (p .stands) (c .before .before .if3 .taken) in
     let m = abs-run k in (
-      omega (arith, begins _ _ _ (p .stands), c .before .before .before .before .before .before .before .before .before .pre .0),
+      omega (arith, begins _ _ _ (p .stands), c₁ .pre .0),
       record {
         read = k .body;
         stands = k .inner;
@@ -146,65 +176,97 @@ build-build-requires-3 t c κs =
 
 build-bracket-at-requires : (t : ℕ) → build-lts.Need-bracket-at-requires (claims t) (build-at t) build.Post
 build-bracket-at-requires t c κs =
-    let p = c .before .before .before .before .before .before .before .before .before .before .before .before .before .before .before .before .pre .1 in
-    let k = is-abs _ _ _ (p .stands) (c .before .before .before .before .before .before .before .before .before .if3 .taken) in
-    let d = c .before .before .before .before .before .before .build3 .kept .1 .1 .1 .1 .0 in
+    let c₁ = c .before .before .before .before .before .before in
+    let c₂ = c₁ .before .before .before in
+    let c₃ = c₂ .before .before .before .before .before .before .before in
+    let p = c₃ .pre .1 in
+    let k = is-abs _ _ _ (p .stands) (c₂ .if3 .taken) in
+    let d = c₁ .build3 .kept .1 .1 .1 .1 .0 in
     record {
       body = translate (k .body);
-      stands = body-stands k _ _ _ _ (p .room) (c .before .before .before .before .before .before .build3 .ensures (k .body) (k .inner) .written);
+      stands = body-stands k _ _ _ _ (p .room) (c₁ .build3 .ensures (k .body) (k .inner) .written);
       room = omega (arith, p .space, abs-run k .1, d);
       short = omega (arith, p .table, d);
     }
 
 build-sub-n : (t : ℕ) → build-lts.Need-sub-n (claims t) (build-at t) build.Post
 build-sub-n t c =
-    let p = c .before .before .before .before .before .before .before .before .before .before .before .before .before .before .before .before .before .before .before .pre .1 in
-    let k = is-abs _ _ _ (p .stands) (c .before .before .before .before .before .before .before .before .before .before .before .before .if3 .taken) in
-    let h = body-stands k _ _ _ _ (p .room) (c .before .before .before .before .before .before .before .before .before .build3 .ensures (k .body) (k .inner) .written) in
+    let c₁ = c .before .before .before .before .before .before .before .before .before in
+    let c₂ = c₁ .before .before .before in
+    let c₃ = c₂ .before .before .before .before .before .before .before in
+    let p = c₃ .pre .1 in
+    let k = is-abs _ _ _ (p .stands) (c₂ .if3 .taken) in
+    let h = body-stands k _ _ _ _ (p .room) (c₁ .build3 .ensures (k .body) (k .inner) .written) in
     omega (arith, c .before .before .bracket-at .ensures (translate (k .body)) h .end)
 
 build-copy-requires : (t : ℕ) → build-lts.Need-copy-requires (claims t) (build-at t) build.Post
 build-copy-requires t c κs =
-    let p = c .before .before .before .before .before .before .before .before .before .before .before .before .before .before .before .before .before .before .before .before .before .pre .1 in
-    let k = is-abs _ _ _ (p .stands) (c .before .before .before .before .before .before .before .before .before .before .before .before .before .before .if3 .taken) in
-    let h = body-stands k _ _ _ _ (p .room) (c .before .before .before .before .before .before .before .before .before .before .before .build3 .ensures (k .body) (k .inner) .written) in
-    let s = c .before .before .before .before .before .before .before .before .before .before .before .build3 .kept .1 .1 .0 in
-    let d = c .before .before .before .before .bracket-at .kept .1 .1 .0 ∙ c .before .before .before .before .before .before .before .before .before .before .before .build3 .kept .1 .1 .1 .1 .0 in
-    omega (arith, c .before .before .before .before .bracket-at .ensures (translate (k .body)) h .end, p .room, p .space, abs-run k .1, s, d)
+    let c₁ = c .before .before .before .before in
+    let c₂ = c₁ .before .before .before .before .before .before .before in
+    let c₃ = c₂ .before .before .before in
+    let c₄ = c₃ .before .before .before .before .before .before .before in
+    let p = c₄ .pre .1 in
+    let k = is-abs _ _ _ (p .stands) (c₃ .if3 .taken) in
+    let h = body-stands k _ _ _ _ (p .room) (c₂ .build3 .ensures (k .body) (k .inner) .written) in
+    let s = c₂ .build3 .kept .1 .1 .0 in
+    let d = c₁ .bracket-at .kept .1 .1 .0 ∙ c₂ .build3 .kept .1 .1 .1 .1 .0 in
+    omega (arith, c₁ .bracket-at .ensures (translate (k .body)) h .end, p .room, p .space, abs-run k .1, s, d)
 
 build-add-t34 : (t : ℕ) → build-lts.Need-add-t34 (claims t) (build-at t) build.Post
 build-add-t34 t c =
-    let p = c .before .before .before .before .before .before .before .before .before .before .before .before .before .before .before .before .before .before .before .before .before .before .before .before .pre .1 in
-    let k = is-abs _ _ _ (p .stands) (c .before .before .before .before .before .before .before .before .before .before .before .before .before .before .before .before .before .if3 .taken) in
-    let h = body-stands k _ _ _ _ (p .room) (c .before .before .before .before .before .before .before .before .before .before .before .before .before .before .build3 .ensures (k .body) (k .inner) .written) in
-    omega (arith, c .before .before .before .before .before .before .before .bracket-at .ensures (translate (k .body)) h .end, p .room, p .stack, abs-run k .1)
+    let c₁ = c .before .before .before .before .before .before .before in
+    let c₂ = c₁ .before .before .before .before .before .before .before in
+    let c₃ = c₂ .before .before .before in
+    let c₄ = c₃ .before .before .before .before .before .before .before in
+    let p = c₄ .pre .1 in
+    let k = is-abs _ _ _ (p .stands) (c₃ .if3 .taken) in
+    let h = body-stands k _ _ _ _ (p .room) (c₂ .build3 .ensures (k .body) (k .inner) .written) in
+    omega (arith, c₁ .bracket-at .ensures (translate (k .body)) h .end, p .room, p .stack, abs-run k .1)
 
 build-same-length-4 : (t : ℕ) → build-lts.Need-same-length-4 (claims t) (build-at t) build.Post
-build-same-length-4 t c = c .before .before .copy .kept .1 .1 .1 .0 ∙ c .before .before .before .before .before .before .before .before .before .before .before .before .before .before .build3 .kept .1 .1 .0
+build-same-length-4 t c =
+    let c₁ = c .before .before .before .before .before .before .before .before .before .before .before .before .before .before in
+    c .before .before .copy .kept .1 .1 .1 .0 ∙ c₁ .build3 .kept .1 .1 .0
 
 build-same-length-5 : (t : ℕ) → build-lts.Need-same-length-5 (claims t) (build-at t) build.Post
-build-same-length-5 t c = c .before .before .before .before .before .before .before .bracket-at .kept .1 .1 .0 ∙ c .before .before .before .before .before .before .before .before .before .before .before .before .before .before .build3 .kept .1 .1 .1 .1 .0
+build-same-length-5 t c =
+    let c₁ = c .before .before .before .before .before .before .before in
+    let c₂ = c₁ .before .before .before .before .before .before .before in
+    c₁ .bracket-at .kept .1 .1 .0 ∙ c₂ .build3 .kept .1 .1 .1 .1 .0
 
 build-returns-3 : (t : ℕ) → build-lts.Need-returns-3 (claims t) (build-at t) build.Post
 build-returns-3 t c = λ x h.
-    let p = c .before .before .before .before .before .before .before .before .before .before .before .before .before .before .before .before .before .before .before .before .before .before .before .before .pre .1 in
+    let c₁ = c .before .before .before .before .before .before .before in
+    let c₂ = c₁ .before .before .before .before .before .before .before in
+    let c₃ = c₂ .before .before .before in
+    let c₄ = c₃ .before .before .before .before .before .before .before in
+    let p = c₄ .pre .1 in
     let e = unique _ _ x (p .read) h (p .stands) in
-    build-abs _ _ _ _ _ _ x h _ _ _ _ _ _ _ (c .before .before .before .before .before .before .before .before .before .before .before .before .before .before .before .before .before .if3 .taken) (rw e (p .room)) (rw e (p .space)) (c .before .before .before .before .before .before .before .before .before .before .before .before .before .before .build3 .kept .1 .1 .1 .1 .0) (c .before .before .before .before .before .before .before .before .before .before .before .before .before .before .build3 .ensures) (c .before .before .before .before .before .before .before .bracket-at .ensures) (c .before .before .copy .ensures)
+    build-abs _ _ _ _ _ _ x h _ _ _ _ _ _ _ (c₃ .if3 .taken) (rw e (p .room)) (rw e (p .space)) (c₂ .build3 .kept .1 .1 .1 .1 .0) (c₂ .build3 .ensures) (c₁ .bracket-at .ensures) (c .before .before .copy .ensures)
 
 build-add-stack : (t : ℕ) → build-lts.Need-add-stack (claims t) (build-at t) build.Post
 build-add-stack t c = omega (arith, begins _ _ _ (c .before .before .before .before .before .before .before .pre .1 .stands))
 
 build-shared-slice-read-stack : (t : ℕ) → build-lts.Need-shared-slice-read-stack (claims t) (build-at t) build.Post
-build-shared-slice-read-stack t c = is-var _ _ _ (c .before .before .before .before .before .before .before .before .pre .1 .stands) (c .before .before .before .if1 .left) (c .before .before .if2 .left) (c .before .if3 .left) .within
+build-shared-slice-read-stack t c =
+    let c₁ = c .before .before .before in
+    let c₂ = c₁ .before .before .before .before .before in
+    is-var _ _ _ (c₂ .pre .1 .stands) (c₁ .if1 .left) (c .before .before .if2 .left) (c .before .if3 .left) .within
 
 build-cast-stack-2 : (t : ℕ) → build-lts.Need-cast-stack-2 (claims t) (build-at t) build.Post
-build-cast-stack-2 t c = omega (arith, c .shared-slice-known3 .given (c .before .before .before .before .before .before .before .before .args .at + 1))
+build-cast-stack-2 t c =
+    let c₁ = c .before .before .before .before .before .before .before .before in
+    omega (arith, c .shared-slice-known3 .given (c₁ .args .at + 1))
 
 build-mul-stack-4 : (t : ℕ) → build-lts.Need-mul-stack-4 (claims t) (build-at t) build.Post
-build-mul-stack-4 t c = omega (arith, c .shared-slice-known3 .given (c .before .before .before .before .before .before .before .before .args .at + 1))
+build-mul-stack-4 t c =
+    let c₁ = c .before .before .before .before .before .before .before .before in
+    omega (arith, c .shared-slice-known3 .given (c₁ .args .at + 1))
 
 build-add-stack-2 : (t : ℕ) → build-lts.Need-add-stack-2 (claims t) (build-at t) build.Post
-build-add-stack-2 t c = omega (arith, c .shared-slice-known3 .given (c .before .before .before .before .before .before .before .before .args .at + 1))
+build-add-stack-2 t c =
+    let c₁ = c .before .before .before .before .before .before .before .before in
+    omega (arith, c .shared-slice-known3 .given (c₁ .args .at + 1))
 
 build-mul-stack-5 : (t : ℕ) → build-lts.Need-mul-stack-5 (claims t) (build-at t) build.Post
 build-mul-stack-5 t c = let p = c .before .before .before .before .before .before .before .before .pre .1 in omega (arith, p .room, p .stack, run-pos (p .read))
@@ -213,7 +275,10 @@ build-slice-write-stack-3 : (t : ℕ) → build-lts.Need-slice-write-stack-3 (cl
 build-slice-write-stack-3 t c = let p = c .before .before .before .before .before .before .before .before .pre .1 in omega (arith, p .room, run-pos (p .read))
 
 build-add-t48 : (t : ℕ) → build-lts.Need-add-t48 (claims t) (build-at t) build.Post
-build-add-t48 t c = omega (arith, is-var _ _ _ (c .before .before .before .before .before .before .before .before .pre .1 .stands) (c .before .before .before .if1 .left) (c .before .before .if2 .left) (c .before .if3 .left) .within)
+build-add-t48 t c =
+    let c₁ = c .before .before .before in
+    let c₂ = c₁ .before .before .before .before .before in
+    omega (arith, is-var _ _ _ (c₂ .pre .1 .stands) (c₁ .if1 .left) (c .before .before .if2 .left) (c .before .if3 .left) .within)
 
 build-add-t53 : (t : ℕ) → build-lts.Need-add-t53 (claims t) (build-at t) build.Post
 build-add-t53 t c = let p = c .before .before .before .before .before .before .before .before .pre .1 in omega (arith, p .room, p .stack, run-pos (p .read))

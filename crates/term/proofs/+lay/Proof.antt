@@ -49,36 +49,46 @@ lay-add-lay t c =
 
 lay-lay-requires : (t : ℕ) → lay-lts.Need-lay-requires (claims t) (lay-at t) lay.Post
 lay-lay-requires t c κs =
-    let p = c .before .before .before .before .before .before .pre .1 in
+    let c₁ = c .before .before .before .before .before .before in
+    let p = c₁ .pre .1 in
     let k = is-stem _ _ _ (p .stands) (c .before .if2 .taken) in (
-      omega (arith, begins _ _ _ (k .only), c .before .before .before .before .before .before .pre .0),
+      omega (arith, begins _ _ _ (k .only), c₁ .pre .0),
       record { tree = k .branch; stands = k .only; room = omega (arith, p .room, k .is); short = p .short },
     )
 
 lay-add-new-node : (t : ℕ) → lay-lts.Need-add-new-node (claims t) (lay-at t) lay.Post
 lay-add-new-node t c =
-    let p = c .before .before .before .before .before .before .before .before .before .before .before .pre .1 in
-    let k = is-stem _ _ _ (p .stands) (c .before .before .before .before .before .before .if2 .taken) in
-    let e = c .before .before .before .before .lay .ensures (k .branch) (k .only) in
+    let c₁ = c .before .before .before .before in
+    let c₂ = c₁ .before .before .before .before .before .before .before in
+    let p = c₂ .pre .1 in
+    let k = is-stem _ _ _ (p .stands) (c₁ .before .before .if2 .taken) in
+    let e = c₁ .lay .ensures (k .branch) (k .only) in
     omega (arith, laid-node _ _ (k .branch) e, p .room, p .short, k .is)
 
 lay-new-node-requires-2 : (t : ℕ) → lay-lts.Need-new-node-requires-2 (claims t) (lay-at t) lay.Post
 lay-new-node-requires-2 t c κs =
-    let p = c .before .before .before .before .before .before .before .before .before .before .before .pre .1 in
-    let k = is-stem _ _ _ (p .stands) (c .before .before .before .before .before .before .if2 .taken) in
-    let e = c .before .before .before .before .lay .ensures (k .branch) (k .only) in
-    omega (arith, laid-used _ _ (k .branch) e, laid-node _ _ (k .branch) e, p .room, p .short, k .is, c .before .before .before .before .lay .kept .1 .1 .0)
+    let c₁ = c .before .before .before .before in
+    let c₂ = c₁ .before .before .before .before .before .before .before in
+    let p = c₂ .pre .1 in
+    let k = is-stem _ _ _ (p .stands) (c₁ .before .before .if2 .taken) in
+    let e = c₁ .lay .ensures (k .branch) (k .only) in
+    omega (arith, laid-used _ _ (k .branch) e, laid-node _ _ (k .branch) e, p .room, p .short, k .is, c₁ .lay .kept .1 .1 .0)
 
 lay-same-length-2 : (t : ℕ) → lay-lts.Need-same-length-2 (claims t) (lay-at t) lay.Post
-lay-same-length-2 t c = c .before .before .new-node2 .kept .0 ∙ c .before .before .before .before .before .before .before .lay .kept .1 .1 .0
+lay-same-length-2 t c =
+    let c₁ = c .before .before .before .before .before .before .before in
+    c .before .before .new-node2 .kept .0 ∙ c₁ .lay .kept .1 .1 .0
 
 lay-returns-2 : (t : ℕ) → lay-lts.Need-returns-2 (claims t) (lay-at t) lay.Post
-lay-returns-2 t c = λ x h. lay-stem _ _ _ _ x h _ _ _ _ (c .before .before .before .before .before .before .before .before .before .if2 .taken) (c .before .before .before .before .before .before .before .lay .ensures) (c .before .before .new-node2 .ensures)
+lay-returns-2 t c = λ x h.
+    let c₁ = c .before .before .before .before .before .before .before in
+    lay-stem _ _ _ _ x h _ _ _ _ (c₁ .before .before .if2 .taken) (c₁ .lay .ensures) (c .before .before .new-node2 .ensures)
 
 lay-add-u : (t : ℕ) → lay-lts.Need-add-u (claims t) (lay-at t) lay.Post
 lay-add-u t c =
-    let k = is-fork _ _ _ (c .before .before .before .before .before .pre .1 .stands) (c .before .if1 .left) (c .if2 .left) in
-    omega (arith, begins _ _ _ (k .first), c .before .before .before .before .before .good)
+    let c₁ = c .before .before .before .before .before in
+    let k = is-fork _ _ _ (c₁ .pre .1 .stands) (c .before .if1 .left) (c .if2 .left) in
+    omega (arith, begins _ _ _ (k .first), c₁ .good)
 
 lay-add-v : (t : ℕ) → lay-lts.Need-add-v (claims t) (lay-at t) lay.Post
 lay-add-v t c = omega (arith, begins _ _ _ (c .before .before .before .before .before .pre .1 .stands))
@@ -93,19 +103,23 @@ lay-add-v-2 t c =
 
 lay-lay-requires-2 : (t : ℕ) → lay-lts.Need-lay-requires-2 (claims t) (lay-at t) lay.Post
 lay-lay-requires-2 t c κs =
-    let p = c .before .before .before .before .before .before .pre .1 in
+    let c₁ = c .before .before .before .before .before .before in
+    let p = c₁ .pre .1 in
     let k = is-fork _ _ _ (p .stands) (c .before .before .if1 .left) (c .before .if2 .left) in (
-      omega (arith, begins _ _ _ (p .stands), c .before .before .before .before .before .before .pre .0),
+      omega (arith, begins _ _ _ (p .stands), c₁ .pre .0),
       record { tree = k .further; stands = k .second; room = omega (arith, p .room, k .is); short = p .short },
     )
 
 lay-lay-requires-3 : (t : ℕ) → lay-lts.Need-lay-requires-3 (claims t) (lay-at t) lay.Post
 lay-lay-requires-3 t c κs =
-    let p = c .before .before .before .before .before .before .before .before .before .before .pre .1 in
-    let k = is-fork _ _ _ (p .stands) (c .before .before .before .before .before .before .if1 .left) (c .before .before .before .before .before .if2 .left) in
-    let e = c .before .before .before .lay2 .ensures (k .further) (k .second) in
-    let same = c .before .before .before .lay2 .kept .1 .1 .0 in (
-      omega (arith, begins _ _ _ (k .first), c .before .before .before .before .before .before .before .before .before .before .pre .0),
+    let c₁ = c .before .before .before in
+    let c₂ = c₁ .before .before .before in
+    let c₃ = c₂ .before .before .before .before in
+    let p = c₃ .pre .1 in
+    let k = is-fork _ _ _ (p .stands) (c₂ .if1 .left) (c₁ .before .before .if2 .left) in
+    let e = c₁ .lay2 .ensures (k .further) (k .second) in
+    let same = c₁ .lay2 .kept .1 .1 .0 in (
+      omega (arith, begins _ _ _ (k .first), c₃ .pre .0),
       record {
         tree = k .branch;
         stands = k .first;
@@ -116,37 +130,55 @@ lay-lay-requires-3 t c κs =
 
 lay-add-new-node-2 : (t : ℕ) → lay-lts.Need-add-new-node-2 (claims t) (lay-at t) lay.Post
 lay-add-new-node-2 t c =
-    let p = c .before .before .before .before .before .before .before .before .before .before .before .before .before .before .before .pre .1 in
-    let k = is-fork _ _ _ (p .stands) (c .before .before .before .before .before .before .before .before .before .before .before .if1 .left) (c .before .before .before .before .before .before .before .before .before .before .if2 .left) in
-    let e = c .before .before .before .before .before .before .before .before .lay2 .ensures (k .further) (k .second) in
-    let f = c .before .before .before .before .lay3 .ensures (k .branch) (k .first) in
+    let c₁ = c .before .before .before .before in
+    let c₂ = c₁ .before .before .before .before in
+    let c₃ = c₂ .before .before .before in
+    let c₄ = c₃ .before .before .before .before in
+    let p = c₄ .pre .1 in
+    let k = is-fork _ _ _ (p .stands) (c₃ .if1 .left) (c₂ .before .before .if2 .left) in
+    let e = c₂ .lay2 .ensures (k .further) (k .second) in
+    let f = c₁ .lay3 .ensures (k .branch) (k .first) in
     omega (arith, laid-used _ _ (k .further) e, laid-node _ _ (k .branch) f, p .room, p .short, k .is)
 
 lay-add-new-node-3 : (t : ℕ) → lay-lts.Need-add-new-node-3 (claims t) (lay-at t) lay.Post
 lay-add-new-node-3 t c =
-    let p = c .before .before .before .before .before .before .before .before .before .before .before .before .before .before .before .before .pre .1 in
-    let k = is-fork _ _ _ (p .stands) (c .before .before .before .before .before .before .before .before .before .before .before .before .if1 .left) (c .before .before .before .before .before .before .before .before .before .before .before .if2 .left) in
-    let e = c .before .before .before .before .before .before .before .before .before .lay2 .ensures (k .further) (k .second) in
+    let c₁ = c .before .before .before .before .before .before .before .before .before in
+    let c₂ = c₁ .before .before .before in
+    let c₃ = c₂ .before .before .before .before in
+    let p = c₃ .pre .1 in
+    let k = is-fork _ _ _ (p .stands) (c₂ .if1 .left) (c₁ .before .before .if2 .left) in
+    let e = c₁ .lay2 .ensures (k .further) (k .second) in
     omega (arith, laid-node _ _ (k .further) e, p .room, p .short, k .is)
 
 lay-new-node-requires-3 : (t : ℕ) → lay-lts.Need-new-node-requires-3 (claims t) (lay-at t) lay.Post
 lay-new-node-requires-3 t c κs =
-    let p = c .before .before .before .before .before .before .before .before .before .before .before .before .before .before .before .before .pre .1 in
-    let k = is-fork _ _ _ (p .stands) (c .before .before .before .before .before .before .before .before .before .before .before .before .if1 .left) (c .before .before .before .before .before .before .before .before .before .before .before .if2 .left) in
-    let e = c .before .before .before .before .before .before .before .before .before .lay2 .ensures (k .further) (k .second) in
-    let f = c .before .before .before .before .before .lay3 .ensures (k .branch) (k .first) in
+    let c₁ = c .before .before .before .before .before in
+    let c₂ = c₁ .before .before .before .before in
+    let c₃ = c₂ .before .before .before in
+    let c₄ = c₃ .before .before .before .before in
+    let p = c₄ .pre .1 in
+    let k = is-fork _ _ _ (p .stands) (c₃ .if1 .left) (c₂ .before .before .if2 .left) in
+    let e = c₂ .lay2 .ensures (k .further) (k .second) in
+    let f = c₁ .lay3 .ensures (k .branch) (k .first) in
     let u = laid-used _ _ (k .further) e in
     let v = laid-used _ _ (k .branch) f in
     let x = laid-node _ _ (k .further) e in
     let y = laid-node _ _ (k .branch) f in
-    let same = c .before .before .before .before .before .lay3 .kept .1 .1 .0 ∙ c .before .before .before .before .before .before .before .before .before .lay2 .kept .1 .1 .0 in
+    let same = c₁ .lay3 .kept .1 .1 .0 ∙ c₂ .lay2 .kept .1 .1 .0 in
     omega (arith, u, v, x, y, p .room, p .short, k .is, same)
 
 lay-same-length-3 : (t : ℕ) → lay-lts.Need-same-length-3 (claims t) (lay-at t) lay.Post
-lay-same-length-3 t c = c .before .before .new-node3 .kept .0 ∙ c .before .before .before .before .before .before .before .before .lay3 .kept .1 .1 .0 ∙ c .before .before .before .before .before .before .before .before .before .before .before .before .lay2 .kept .1 .1 .0
+lay-same-length-3 t c =
+    let c₁ = c .before .before .before .before .before .before .before .before in
+    let c₂ = c₁ .before .before .before .before in
+    c .before .before .new-node3 .kept .0 ∙ c₁ .lay3 .kept .1 .1 .0 ∙ c₂ .lay2 .kept .1 .1 .0
 
 lay-returns-3 : (t : ℕ) → lay-lts.Need-returns-3 (claims t) (lay-at t) lay.Post
-lay-returns-3 t c = λ x h. lay-fork _ _ _ _ x h _ _ _ _ _ _ (c .before .before .before .before .before .before .before .before .before .before .before .before .before .before .before .if1 .left) (c .before .before .before .before .before .before .before .before .before .before .before .before .before .before .if2 .left) (c .before .before .before .before .before .before .before .before .before .before .before .before .lay2 .ensures) (c .before .before .before .before .before .before .before .before .lay3 .ensures) (c .before .before .new-node3 .ensures)
+lay-returns-3 t c = λ x h.
+    let c₁ = c .before .before .before .before .before .before .before .before in
+    let c₂ = c₁ .before .before .before .before in
+    let c₃ = c₂ .before .before .before in
+    lay-fork _ _ _ _ x h _ _ _ _ _ _ (c₃ .if1 .left) (c₂ .before .before .if2 .left) (c₂ .lay2 .ensures) (c₁ .lay3 .ensures) (c .before .before .new-node3 .ensures)
 
 pub +lay-spec : {M : Type 1} → statement M
 +lay-spec = close μ-lay λ t. lay-lts.spec (claims t)

@@ -46,38 +46,51 @@ measure-nothing-requires-2 : (t : ℕ) → measure-lts.Need-nothing-requires-2 (
 measure-nothing-requires-2 t c κs = tt
 
 measure-returns-2 : (t : ℕ) → measure-lts.Need-returns-2 (claims t) (measure-at t) measure.Post
-measure-returns-2 t c = λ n h. c .nothing2 .ensures ∙ no-function n _ _ _ (c .before .before .before .before .before .if1 .left) h _ (c .before .before .before .if2 .taken) (c .before .before .measure .ensures) (c .before .if3 .taken)
+measure-returns-2 t c = λ n h.
+    let c₁ = c .before .before .before in
+    c .nothing2 .ensures ∙ no-function n _ _ _ (c₁ .before .before .if1 .left) h _ (c₁ .if2 .taken) (c .before .before .measure .ensures) (c .before .if3 .taken)
 
 measure-measure-requires-2 : (t : ℕ) → measure-lts.Need-measure-requires-2 (claims t) (measure-at t) measure.Post
 measure-measure-requires-2 t c κs =
-    let f = found _ _ _ _ (c .before .before .before .before .before .before .pre .1 .1) (c .before .measure .ensures) (c .if3 .left) in
-    omega (arith, f .after, f .within, c .before .before .before .before .before .before .pre)
+    let c₁ = c .before .before .before .before .before .before in
+    let f = found _ _ _ _ (c₁ .pre .1 .1) (c .before .measure .ensures) (c .if3 .left) in
+    omega (arith, f .after, f .within, c₁ .pre)
 
 measure-nothing-requires-3 : (t : ℕ) → measure-lts.Need-nothing-requires-3 (claims t) (measure-at t) measure.Post
 measure-nothing-requires-3 t c κs = tt
 
 measure-returns-3 : (t : ℕ) → measure-lts.Need-returns-3 (claims t) (measure-at t) measure.Post
 measure-returns-3 t c = λ n h.
-    let f = found _ _ _ _ (c .before .before .before .before .before .before .before .before .before .before .pre .1 .1) (c .before .before .before .before .before .measure .ensures) (c .before .before .before .before .if3 .left) in
+    let c₁ = c .before .before .before in
+    let c₂ = c₁ .before .before .before in
+    let c₃ = c₂ .before .before .before .before in
+    let f = found _ _ _ _ (c₃ .pre .1 .1) (c₁ .before .before .measure .ensures) (c₁ .before .if3 .left) in
     c .nothing3 .ensures
-    ∙ no-argument n _ _ _ (c .before .before .before .before .before .before .before .before .if1 .left) h _ (c .before .before .before .before .before .before .if2 .taken) (c .before .before .before .before .before .measure .ensures) _ (c .before .before .before .before .if3 .left) (f .after) (c .before .before .before .measure2 .ensures) (c .before .if4 .taken)
+    ∙ no-argument n _ _ _ (c₂ .before .before .if1 .left) h _ (c₂ .if2 .taken) (c₁ .before .before .measure .ensures) _ (c₁ .before .if3 .left) (f .after) (c₁ .measure2 .ensures) (c .before .if4 .taken)
 
 measure-add-t13 : (t : ℕ) → measure-lts.Need-add-t13 (claims t) (measure-at t) measure.Post
 measure-add-t13 t c =
-    let f = found _ _ _ _ (c .before .before .before .before .before .before .before .before .before .before .before .pre .1 .1) (c .before .before .before .before .before .before .measure .ensures) (c .before .before .before .before .before .if3 .left) in
-    let a = found _ _ _ _ (c .before .before .before .before .before .before .before .before .before .before .before .pre .1 .1) (c .before .before .before .before .measure2 .ensures) (c .before .before .if4 .left) in
-    omega (arith, f .after, f .most, a .after, a .within, a .most, c .before .before .before .before .before .before .before .before .before .before .before .pre .1 .0)
+    let c₁ = c .before .before .before .before in
+    let c₂ = c₁ .before .before .before .before .before .before .before in
+    let f = found _ _ _ _ (c₂ .pre .1 .1) (c₁ .before .before .measure .ensures) (c₁ .before .if3 .left) in
+    let a = found _ _ _ _ (c₂ .pre .1 .1) (c₁ .measure2 .ensures) (c .before .before .if4 .left) in
+    omega (arith, f .after, f .most, a .after, a .within, a .most, c₂ .pre .1 .0)
 
 measure-returns-4 : (t : ℕ) → measure-lts.Need-returns-4 (claims t) (measure-at t) measure.Post
 measure-returns-4 t c = λ n h.
-    let f = found _ _ _ _ (c .before .before .before .before .before .before .before .before .before .before .before .pre .1 .1) (c .before .before .before .before .before .before .measure .ensures) (c .before .before .before .before .before .if3 .left) in
-    is-app n _ _ _ (c .before .before .before .before .before .before .before .before .before .if1 .left) h _ (c .before .before .before .before .before .before .before .if2 .taken) (c .before .before .before .before .before .before .measure .ensures) _ (c .before .before .before .before .before .if3 .left) (f .after) (c .before .before .before .before .measure2 .ensures) (c .before .before .if4 .left)
+    let c₁ = c .before .before .before .before in
+    let c₂ = c₁ .before .before .before in
+    let c₃ = c₂ .before .before .before .before in
+    let f = found _ _ _ _ (c₃ .pre .1 .1) (c₁ .before .before .measure .ensures) (c₁ .before .if3 .left) in
+    is-app n _ _ _ (c₂ .before .before .if1 .left) h _ (c₂ .if2 .taken) (c₁ .before .before .measure .ensures) _ (c₁ .before .if3 .left) (f .after) (c₁ .measure2 .ensures) (c .before .before .if4 .left)
 
 measure-nothing-requires-4 : (t : ℕ) → measure-lts.Need-nothing-requires-4 (claims t) (measure-at t) measure.Post
 measure-nothing-requires-4 t c κs = tt
 
 measure-returns-5 : (t : ℕ) → measure-lts.Need-returns-5 (claims t) (measure-at t) measure.Post
-measure-returns-5 t c = λ n h. c .nothing4 .ensures ∙ too-deep n _ _ _ (c .before .before .before .before .before .if1 .left) h (c .before .before .if5 .taken) (c .before .if6 .taken)
+measure-returns-5 t c = λ n h.
+    let c₁ = c .before .before .before .before .before in
+    c .nothing4 .ensures ∙ too-deep n _ _ _ (c₁ .if1 .left) h (c .before .before .if5 .taken) (c .before .if6 .taken)
 
 measure-add-measure-2 : (t : ℕ) → measure-lts.Need-add-measure-2 (claims t) (measure-at t) measure.Post
 measure-add-measure-2 t c = omega arith
@@ -92,25 +105,37 @@ measure-nothing-requires-5 : (t : ℕ) → measure-lts.Need-nothing-requires-5 (
 measure-nothing-requires-5 t c κs = tt
 
 measure-returns-6 : (t : ℕ) → measure-lts.Need-returns-6 (claims t) (measure-at t) measure.Post
-measure-returns-6 t c = λ n h. c .nothing5 .ensures ∙ no-body n _ _ _ (c .before .before .before .before .before .before .before .before .if1 .left) h _ (c .before .before .before .before .before .if5 .taken) (c .before .before .before .before .if6 .left) (c .before .before .before .measure3 .ensures) (c .before .if7 .taken)
+measure-returns-6 t c = λ n h.
+    let c₁ = c .before .before .before in
+    let c₂ = c₁ .before .before .before .before .before in
+    c .nothing5 .ensures ∙ no-body n _ _ _ (c₂ .if1 .left) h _ (c₁ .before .before .if5 .taken) (c₁ .before .if6 .left) (c₁ .measure3 .ensures) (c .before .if7 .taken)
 
 measure-unit-requires : (t : ℕ) → measure-lts.Need-unit-requires (claims t) (measure-at t) measure.Post
 measure-unit-requires t c κs = omega arith
 
 measure-mul-t16 : (t : ℕ) → measure-lts.Need-mul-t16 (claims t) (measure-at t) measure.Post
-measure-mul-t16 t c = omega (arith, unit-most (c .before .before .before .before .before .before .before .before .before .before .args .depth) (c .before .before .before .before .before .before .before .before .before .before .pre .1 .1), c .unit .ensures)
+measure-mul-t16 t c =
+    let c₁ = c .before .before .before .before .before .before .before .before .before .before in
+    omega (arith, unit-most (c₁ .args .depth) (c₁ .pre .1 .1), c .unit .ensures)
 
 measure-sub-t18 : (t : ℕ) → measure-lts.Need-sub-t18 (claims t) (measure-at t) measure.Post
 measure-sub-t18 t c =
-    let e : c .before .before .before .before .before .before .before .before .before .before .before .args .depth + 1 - 1 ≡ c .before .before .before .before .before .before .before .before .before .before .before .args .depth = omega arith in
-    let b = found-less _ (c .before .before .before .before .before .before .before .before .before .before .before .args .depth + 1) _ _ (omega arith) (c .before .before .before .before .measure3 .ensures) (omega arith) (c .before .before .if7 .left) in
+    let c₁ = c .before .before .before .before in
+    let c₂ = c₁ .before .before .before .before .before .before .before in
+    let e : c₂ .args .depth + 1 - 1 ≡ c₂ .args .depth = omega arith in
+    let b = found-less _ (c₂ .args .depth + 1) _ _ (omega arith) (c₁ .measure3 .ensures) (omega arith) (c .before .before .if7 .left) in
     omega (arith, rw e at b, c .before .unit .ensures)
 
 measure-returns-7 : (t : ℕ) → measure-lts.Need-returns-7 (claims t) (measure-at t) measure.Post
-measure-returns-7 t c = λ n h. is-abs n _ _ _ (c .before .before .before .before .before .before .before .before .before .if1 .left) h _ (c .before .before .before .before .before .before .if5 .taken) (c .before .before .before .before .before .if6 .left) (c .before .before .before .before .measure3 .ensures) (c .before .unit .ensures) (c .before .before .if7 .left)
+measure-returns-7 t c = λ n h.
+    let c₁ = c .before .before .before .before in
+    let c₂ = c₁ .before .before .before .before .before in
+    is-abs n _ _ _ (c₂ .if1 .left) h _ (c₁ .before .before .if5 .taken) (c₁ .before .if6 .left) (c₁ .measure3 .ensures) (c .before .unit .ensures) (c .before .before .if7 .left)
 
 measure-measure-atom-requires : (t : ℕ) → measure-lts.Need-measure-atom-requires (claims t) (measure-at t) measure.Post
-measure-measure-atom-requires t c κs = (c .before .before .before .if1 .left, c .before .before .before .before .before .pre .1 .1, c .before .if2 .left, c .if5 .left)
+measure-measure-atom-requires t c κs =
+    let c₁ = c .before .before .before in
+    (c₁ .if1 .left, c₁ .before .before .pre .1 .1, c .before .if2 .left, c .if5 .left)
 
 measure-returns-8 : (t : ℕ) → measure-lts.Need-returns-8 (claims t) (measure-at t) measure.Post
 measure-returns-8 t c = c .measure-atom .ensures

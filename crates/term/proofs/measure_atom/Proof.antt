@@ -50,29 +50,34 @@ unit-requires-3 c κs = search needs
 
 mul-t23 : tie.Need-mul-t23
 mul-t23 c =
-    let a = c .before .before .before .before .before .before .before .before .before .args in
-    omega (arith, unit-most (a .depth - 1 - getD (a .bytes .now) (a .at + 1) 0) (omega (arith, c .before .before .before .before .before .before .before .before .before .pre .1)), c .unit3 .ensures)
+    let c₁ = c .before .before .before .before .before .before .before .before .before in
+    let a = c₁ .args in
+    omega (arith, unit-most (a .depth - 1 - getD (a .bytes .now) (a .at + 1) 0) (omega (arith, c₁ .pre .1)), c .unit3 .ensures)
 
 add-t24 : tie.Need-add-t24
 add-t24 c =
-    let a = c .before .before .before .before .before .before .before .before .before .args in
-    omega (arith, unit-most (a .depth) (c .before .before .before .before .before .before .before .before .before .pre .1), c .before .unit2 .ensures, unit-most (a .depth - 1 - getD (a .bytes .now) (a .at + 1) 0) (omega (arith, c .before .before .before .before .before .before .before .before .before .pre .1)), c .unit3 .ensures)
+    let c₁ = c .before .before .before .before .before .before .before .before .before in
+    let a = c₁ .args in
+    omega (arith, unit-most (a .depth) (c₁ .pre .1), c .before .unit2 .ensures, unit-most (a .depth - 1 - getD (a .bytes .now) (a .at + 1) 0) (omega (arith, c₁ .pre .1)), c .unit3 .ensures)
 
 returns-2 : tie.Need-returns-2
 returns-2 c = λ n h.
-    let a = c .before .before .before .before .before .before .before .before .before .args in
-    let i : a .at + 1 < length (a .bytes .now) = omega (arith, c .before .before .before .before .if3 .taken) in
-    is-var n _ _ _ (c .before .before .before .before .before .before .before .before .before .pre .0) h (c .before .unit2 .ensures) (c .unit3 .ensures) (c .before .before .before .before .before .if2 .taken) i (c .before .before .if4 .taken)
+    let c₁ = c .before .before .before .before in
+    let c₂ = c₁ .before .before .before .before .before in
+    let a = c₂ .args in
+    let i : a .at + 1 < length (a .bytes .now) = omega (arith, c₁ .if3 .taken) in
+    is-var n _ _ _ (c₂ .pre .0) h (c .before .unit2 .ensures) (c .unit3 .ensures) (c₁ .before .if2 .taken) i (c .before .before .if4 .taken)
 
 nothing-requires : tie.Need-nothing-requires
 nothing-requires c κs = search needs
 
 returns-3 : tie.Need-returns-3
 returns-3 c = λ n h.
-    let lt = c .before .before .before .before .before .pre .0 in
+    let c₁ = c .before .before .before .before .before in
+    let lt = c₁ .pre .0 in
     c .nothing .ensures
     ∙ ⊎-elim (λ w. free-var n _ _ _ lt h (w .0 .taken) (omega (arith, w .1 .taken)) (w .3 .left))
-    (⊎-elim (λ w. cut n _ _ _ lt h (w .0 .taken) (omega (arith, w .1 .left))) (λ w. other n _ _ _ lt h (c .before .before .if1 .left) (c .before .before .before .before .before .pre .2) (c .before .before .before .before .before .pre .3) (w .left)))
+    (⊎-elim (λ w. cut n _ _ _ lt h (w .0 .taken) (omega (arith, w .1 .left))) (λ w. other n _ _ _ lt h (c .before .before .if1 .left) (c₁ .pre .2) (c₁ .pre .3) (w .left)))
     (c .before .if2 .came)
 
 pub measure-atom-spec : {M : Type 1} → statement M

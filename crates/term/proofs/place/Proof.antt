@@ -27,11 +27,13 @@ build-requires c κs =
 
 lay-requires : tie.Need-lay-requires
 lay-requires c κs =
-    let p = c .before .before .before .before .before .before .before .before .before .before .before .before .pre in
-    let d = c .before .before .before .before .before .before .build .kept .1 .1 .1 .1 .0 in
+    let c₁ = c .before .before .before .before .before .before in
+    let c₂ = c₁ .before .before .before .before .before .before in
+    let p = c₂ .pre in
+    let d = c₁ .build .kept .1 .1 .1 .1 .0 in
     record {
       tree = ruleTree (p .term);
-      stands = tree-stands _ _ _ _ p _ _ _ _ (c .before .before .before .before .before .before .build .ensures (p .term) (rule-stands _ (p .is-rule))) d;
+      stands = tree-stands _ _ _ _ p _ _ _ _ (c₁ .build .ensures (p .term) (rule-stands _ (p .is-rule))) d;
       room = omega (arith, p .nodes, p .within, d);
       short = omega (arith, p .table, d);
     }
@@ -47,12 +49,15 @@ same-length-2 c = search needs
 
 returns : tie.Need-returns
 returns c = λ t e.
-    let p = c .before .before .before .before .before .before .before .before .before .before .before .before .before .before .before .before .before .before .before .pre in
-    let b = c .before .before .before .before .before .before .before .before .before .before .before .before .before .build .ensures (p .term) (rule-stands _ (p .is-rule)) in
-    let d = c .before .before .before .before .before .before .before .before .before .before .before .before .before .build .kept .1 .1 .1 .1 .0 in
-    let s = c .before .before .before .before .before .before .before .before .before .before .before .before .before .build .kept .1 .1 .0 in
+    let c₁ = c .before .before .before .before .before .before in
+    let c₂ = c₁ .before .before .before .before .before .before .before in
+    let c₃ = c₂ .before .before .before .before .before .before in
+    let p = c₃ .pre in
+    let b = c₂ .build .ensures (p .term) (rule-stands _ (p .is-rule)) in
+    let d = c₂ .build .kept .1 .1 .1 .1 .0 in
+    let s = c₂ .build .kept .1 .1 .0 in
     let h = tree-stands _ _ _ _ p _ _ _ _ b d in
-    rw (same-rule _ e (p .is-rule)) (placed-all _ _ _ _ p _ _ _ _ b d _ _ _ (c .before .before .before .before .before .before .lay .ensures (ruleTree (p .term)) h) (c .before .before .clear .ensures) s)
+    rw (same-rule _ e (p .is-rule)) (placed-all _ _ _ _ p _ _ _ _ b d _ _ _ (c₁ .lay .ensures (ruleTree (p .term)) h) (c .before .before .clear .ensures) s)
 
 pub place-spec : {M : Type 1} → statement M
 place-spec =

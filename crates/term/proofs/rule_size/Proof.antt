@@ -20,7 +20,10 @@ measure-requires : tie.Need-measure-requires
 measure-requires c κs = search needs
 
 returns-4 : tie.Need-returns-4
-returns-4 c = is-rule _ _ (c .before .before .before .before .before .if2 .left) (c .before .before .measure .ensures) (c .before .before .before .before .before .before .if1 .left) (c .before .before .before .if3 .left) (c .if4 .taken)
+returns-4 c =
+    let c₁ = c .before .before .before in
+    let c₂ = c₁ .before .before .before in
+    is-rule _ _ (c₁ .before .before .if2 .left) (c .before .before .measure .ensures) (c₂ .if1 .left) (c₁ .if3 .left) (c .if4 .taken)
 
 returns-5 : tie.Need-returns-5
 returns-5 c = not-whole _ _ (c .before .before .before .before .before .if2 .left) (c .before .before .measure .ensures) (c .if4 .left)

@@ -14,7 +14,10 @@ enum-told : tie.Need-enum-told
 enum-told c = search needs
 
 translate-rule-requires : tie.Need-translate-rule-requires
-translate-rule-requires c κs = let a = c .before .before .before .before .before .before .before .before .before .before .args in enters (a .table .now) (a .used) (a .stack .now) (a .bytes .now) (c .before .before .before .before .check .result) (c .before .before .before .before .check .ensures) (c .before .before .enum-told .given .1)
+translate-rule-requires c κs =
+    let c₁ = c .before .before .before .before in
+    let c₂ = c₁ .before .before .before .before .before .before in
+    let a = c₂ .args in enters (a .table .now) (a .used) (a .stack .now) (a .bytes .now) (c₁ .check .result) (c₁ .check .ensures) (c .before .before .enum-told .given .1)
 
 same-length : tie.Need-same-length
 same-length c = search needs
@@ -24,8 +27,10 @@ same-length-2 c = search needs
 
 returns : tie.Need-returns
 returns c =
-    let a = c .before .before .before .before .before .before .before .before .before .args in
-    refused-entry (a .table .now) (a .used) (a .stack .now) (a .bytes .now) (c .before .before .before .check .result) (c .before .before .before .check .ensures) (c .before .entry .given .0 .0) (c .before .entry .given .1)
+    let c₁ = c .before .before .before in
+    let c₂ = c₁ .before .before .before .before .before .before in
+    let a = c₂ .args in
+    refused-entry (a .table .now) (a .used) (a .stack .now) (a .bytes .now) (c₁ .check .result) (c₁ .check .ensures) (c .before .entry .given .0 .0) (c .before .entry .given .1)
 
 same-length-3 : tie.Need-same-length-3
 same-length-3 c = search needs
@@ -35,8 +40,11 @@ same-length-4 c = search needs
 
 returns-2 : tie.Need-returns-2
 returns-2 c =
-    let a = c .before .before .before .before .before .before .before .before .before .before .before .before .before .before .before .args in
-    past-entry (a .table .now) (a .used) (a .stack .now) (a .bytes .now) (c .before .before .before .before .before .before .before .before .before .check .result) (c .before .before .before .before .before .before .before .before .before .check .ensures) (c .before .before .before .before .before .before .before .enum-told .given .1) (c .before .before .before .before .translate-rule .ensures)
+    let c₁ = c .before .before .before .before in
+    let c₂ = c₁ .before .before .before in
+    let c₃ = c₂ .before .before .before .before .before .before .before .before in
+    let a = c₃ .args in
+    past-entry (a .table .now) (a .used) (a .stack .now) (a .bytes .now) (c₂ .before .before .check .result) (c₂ .before .before .check .ensures) (c₂ .enum-told .given .1) (c₁ .translate-rule .ensures)
 
 pub translate-spec : {M : Type 1} → statement M
 translate-spec =

@@ -23,8 +23,9 @@ same-length c = search needs
 
 returns-2 : tie.Need-returns-2
 returns-2 c =
-    let k = sized _ (c .before .before .before .before .before .before .rule-size .ensures) (c .before .before .before .before .before .if1 .left) in
-    refused-nodes _ _ _ _ k (c .before .before .clear .ensures) (c .before .before .before .before .if2 .taken)
+    let c₁ = c .before .before .before .before in
+    let k = sized _ (c₁ .before .before .rule-size .ensures) (c₁ .before .if1 .left) in
+    refused-nodes _ _ _ _ k (c .before .before .clear .ensures) (c₁ .if2 .taken)
 
 mul-if3 : tie.Need-mul-if3
 mul-if3 c = omega (arith, c .before .before .before .before .before .before .pre .0)
@@ -37,20 +38,24 @@ same-length-2 c = search needs
 
 returns-3 : tie.Need-returns-3
 returns-3 c =
-    let k = sized _ (c .before .before .before .before .before .before .before .rule-size .ensures) (c .before .before .before .before .before .before .if1 .left) in
-    refused-frames _ _ _ _ k (c .before .before .clear2 .ensures) (c .before .before .before .before .before .if2 .left) (c .before .before .before .before .if3 .taken)
+    let c₁ = c .before .before .before .before in
+    let c₂ = c₁ .before .before .before in
+    let k = sized _ (c₂ .rule-size .ensures) (c₁ .before .before .if1 .left) in
+    refused-frames _ _ _ _ k (c .before .before .clear2 .ensures) (c₁ .before .if2 .left) (c₁ .if3 .taken)
 
 place-requires : tie.Need-place-requires
 place-requires c κs =
-    let k = sized _ (c .before .before .before .before .before .rule-size .ensures) (c .before .before .before .before .if1 .left) in
+    let c₁ = c .before .before .before in
+    let c₂ = c₁ .before .before .before .before .before .before in
+    let k = sized _ (c₁ .before .before .rule-size .ensures) (c₁ .before .if1 .left) in
     record {
       term = k .term;
       is-rule = k .is-rule;
-      nodes = omega (arith, k .nodes, c .before .before .before .if2 .left);
+      nodes = omega (arith, k .nodes, c₁ .if2 .left);
       frames = omega (arith, k .nodes, c .before .before .if3 .left);
-      within = c .before .before .before .before .before .before .before .before .before .pre .0 .within;
-      table = c .before .before .before .before .before .before .before .before .before .pre .0 .short;
-      stack = c .before .before .before .before .before .before .before .before .before .pre .1;
+      within = c₂ .pre .0 .within;
+      table = c₂ .pre .0 .short;
+      stack = c₂ .pre .1;
     }
 
 same-length-3 : tie.Need-same-length-3
@@ -61,8 +66,11 @@ same-length-4 c = search needs
 
 returns-4 : tie.Need-returns-4
 returns-4 c =
-    let k = sized _ (c .before .before .before .before .before .before .before .before .before .before .rule-size .ensures) (c .before .before .before .before .before .before .before .before .before .if1 .left) in
-    not-refused _ _ _ _ k (c .before .before .before .before .before .before .before .before .if2 .left) (c .before .before .before .before .before .before .before .if3 .left) (c .before .before .before .before .place .ensures (k .term) (k .is-rule))
+    let c₁ = c .before .before .before .before in
+    let c₂ = c₁ .before .before .before in
+    let c₃ = c₂ .before .before .before in
+    let k = sized _ (c₃ .rule-size .ensures) (c₂ .before .before .if1 .left) in
+    not-refused _ _ _ _ k (c₂ .before .if2 .left) (c₂ .if3 .left) (c₁ .place .ensures (k .term) (k .is-rule))
 
 pub translate-rule-spec : {M : Type 1} → statement M
 translate-rule-spec =
