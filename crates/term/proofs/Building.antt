@@ -1,15 +1,15 @@
 -- What building a term's words gives, by the term's first byte. Assumes nothing.
-use Prim.Native.Nat.{ℕ, _+_, _*_, _-_, _<_, _≤_}
-use mathlib.Core.Path.{_≡_, refl, sym, ap, ap₂, _∙_}
+use Prim.Native.Nat.{ℕ, _+_, _*_, _-_, _≤_}
+use mathlib.Core.Path.{_≡_, refl, ap, ap₂, _∙_}
 use mathlib.Core.List.{List, [], _∷_, _++_}
 use native.Mathlib.Omega.{arith}
 use lib.ListN.{length, getD, set, take, drop, length-append}
 use lib.Seq.{sets}
-use Rattle.calculus.specs.Term.{Term, leaf, app, abs, var}
+use Rattle.calculus.specs.Term.{Term}
 use Rattle.calculus.specs.Bytes.{bytes}
-use Rattle.calculus.specs.Abstraction.{Combination, bracket, translate, width}
+use Rattle.calculus.specs.Abstraction.{Combination, bracket, translate}
 use Rattle.calculus.proofs.Size.{width-pos, bracket-width}
-use Rattle.term.specs.Words.{words, Holds, Written, run, Outside, Builds}
+use Rattle.term.specs.Words.{words, Holds, Written, run, Builds}
 use Rattle.term.proofs.Standing.{part}
 use Rattle.term.proofs.Stores.{sets-more, sets-before, stored, over, outside-refl, outside-trans, outside-sets}
 use Rattle.term.proofs.Runs.{words-pos, words-width}

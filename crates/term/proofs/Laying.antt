@@ -2,10 +2,10 @@
 -- Assumes nothing.
 use Prim.Native.Nat.{ℕ, _+_, _*_, _/_, _<_, _≤_}
 use mathlib.Core.Path.{_≡_, refl, sym, ap, ap₂, _∙_}
-use mathlib.Core.List.{List, [], _∷_, _++_}
+use mathlib.Core.List.{List, _++_}
 use native.Mathlib.Decide.{decLt}
 use native.Mathlib.Omega.{arith}
-use lib.ListN.{length, getD, length-append}
+use lib.ListN.{length, getD}
 use lib.Seq.{ext-getD}
 use Rattle.calculus.specs.Tree.{Tree, leaf, stem, fork, size}
 use Rattle.calculus.specs.Abstraction.{term}
@@ -15,8 +15,7 @@ use Rattle.table.specs.declared.NewNode.{NewNode}
 use Rattle.table.proofs.Words.{wrote, wrote-other, wrote-first, wrote-second, length-wrote}
 use Rattle.table.proofs.Making.{lay-used, lay-node, size-pos}
 use Rattle.term.specs.Words.{words, Holds, Outside}
-use Rattle.term.proofs.Standing.{left, right, inside, head, tail, moved}
-use Rattle.term.proofs.Runs.{words-pos, begins, ends}
+use Rattle.term.proofs.Standing.{left, right, head, tail, moved}
 
 module _ (s : List ℕ) (p : ℕ) where
   pub is-leaf : (t : Tree) → Holds s p (words (term t)) → getD s p 0 ≡ 0 → t ≡ leaf

@@ -1,21 +1,21 @@
 -- From the checks and the size to Translate's outcome: one law for each way that its code goes. Assumes nothing.
-use Prim.Native.Nat.{ℕ, _+_, _-_, _*_, _/_, _<_, _≤_}
+use Prim.Native.Nat.{ℕ, _+_, _-_, _*_, _<_, _≤_}
 use mathlib.Core.Path.{_≡_, refl, sym, ap, ap₂, _∙_}
 use mathlib.Core.Bool.{true}
-use mathlib.Core.List.{List, [], _++_, append-nil}
+use mathlib.Core.List.{List, append-nil}
 use mathlib.Core.Option.{Option, none, some}
 use native.Mathlib.Omega.{arith}
-use lib.ListN.{length, drop, replicate}
+use lib.ListN.{length, replicate}
 use lib.Seq.{drop-length}
 use borrow.Author.Tests.{lt-ltb, le-ltb}
 use Rattle.calculus.specs.Tree.{size}
 use Rattle.calculus.specs.Term.{Term}
-use Rattle.calculus.specs.Bytes.{bytes, IsRule, rule}
+use Rattle.calculus.specs.Bytes.{bytes, rule}
 use Rattle.calculus.specs.Abstraction.{translate as translation, term, ruleTree}
 use Rattle.calculus.proofs.Rule.{rule-exact}
 use Rattle.calculus.proofs.Size.{rule-tree, rule-size}
-use Rattle.table.specs.Nodes.{Table, Placed, Sound, capacity, cleared, lay}
-use Rattle.table.specs.Outcome.{Outcome, whole, zeros, frames, atEntry, unless, stopped, placed, laid}
+use Rattle.table.specs.Nodes.{Placed, Sound, capacity, cleared, lay}
+use Rattle.table.specs.Outcome.{Outcome, whole, zeros, frames, atEntry, stopped, placed, laid}
 use Rattle.table.specs.Code.{refusalOf, placedBy}
 use Rattle.table.specs.declared.Refusal.{Refusal}
 use Rattle.table.specs.declared.Refusal.the-variants.{Rule, Nodes, Frames}
@@ -26,8 +26,8 @@ use Rattle.table.specs.declared.Checked.the-variants as checked
 use Rattle.table.specs.declared.NewNode.{NewNode}
 use Rattle.table.proofs.Words.{cleared-none, cleared-all}
 use Rattle.table.proofs.Making.{size-pos}
-use Rattle.table.proofs.Entry.{Entered, entered}
-use Rattle.term.specs.Words.{words, Holds, run, Outside, Builds, PlaceAt}
+use Rattle.table.proofs.Entry.{entered}
+use Rattle.term.specs.Words.{words, Holds, run, Builds, PlaceAt}
 use Rattle.term.specs.Weight.{sizeOf}
 use Rattle.term.specs.Translate.{translateRule, translate}
 use Rattle.term.proofs.Stores.{stored}

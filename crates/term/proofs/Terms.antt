@@ -1,9 +1,9 @@
 -- What the first byte of a term's bytes says of the term. Assumes nothing.
 use Prim.Native.Nat.{ℕ, _+_, _<_, _≤_}
 use mathlib.Core.Path.{_≡_, refl, sym, ap, _∙_}
-use mathlib.Core.List.{List, [], _∷_, _++_}
+use mathlib.Core.List.{List, []}
 use native.Mathlib.Omega.{arith}
-use lib.ListN.{length, drop, getD}
+use lib.ListN.{length, getD}
 use Rattle.calculus.specs.Term.{Term, leaf, app, abs, var}
 use Rattle.calculus.specs.Bytes.{bytes}
 use Rattle.calculus.proofs.Rule.{bytes-pos, bytes-prefix}

@@ -9,12 +9,11 @@ use native.Mathlib.Numerals.{add-one}
 use native.Mathlib.Omega.{arith}
 use lib.ListN.{length, drop, getD, drop-of-length-le, length-append, length-drop, List·getD-append}
 use lib.Seq.{drop-cons, drop-drop}
-use lib.Dec.{ltb, leb, eqb}
+use lib.Dec.{leb}
 use borrow.Author.Tests.{lt-ltb, le-ltb, le-leb, lt-leb, eq-eqb, ne-eqb}
-use Rattle.calculus.specs.Tree.{size}
-use Rattle.calculus.specs.Term.{Term, leaf, app, abs, var, ClosedUnder, nesting}
-use Rattle.calculus.specs.Bytes.{bytes, IsRule, abstraction, application, argument, parse, whole, rule}
-use Rattle.calculus.specs.Abstraction.{Combination, bracket, translate, ruleTree, width}
+use Rattle.calculus.specs.Term.{Term, leaf, app, abs, var, nesting}
+use Rattle.calculus.specs.Bytes.{bytes, abstraction, application, argument, parse, whole, rule}
+use Rattle.calculus.specs.Abstraction.{Combination, bracket, translate, width}
 use Rattle.calculus.specs.Abstraction as combination
 use Rattle.calculus.proofs.Rule.{bytes-pos, parse-sound, rule-exact}
 use Rattle.calculus.proofs.Size.{Within, translate-within, rule-size}

@@ -1,6 +1,5 @@
 -- The size of a rule's tree, counted in one pass over its bytes. Assumes nothing: these are definitions.
 use Prim.Native.Nat.{ℕ, zero, suc, _+_, _-_, _*_}
-use mathlib.Core.List.{List}
 use mathlib.Core.Option.{Option, none, some}
 use lib.ListN.{length}
 use Rattle.calculus.specs.Tree.{size}

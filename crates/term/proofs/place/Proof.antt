@@ -1,8 +1,5 @@
 -- `term::place` meets its contract: the rule's words are built, its nodes laid, and the stack cleared. Assumes nothing.
-use mathlib.Core.Path.{_≡_, sym, ap, _∙_}
-use mathlib.Core.Option.{Option, some}
 use native.Mathlib.Omega.{arith}
-use Rattle.calculus.specs.Term.{Term}
 use Rattle.calculus.specs.Abstraction.{ruleTree}
 use Rattle.term.proofs.Outcomes.{rule-stands, rule-run, tree-stands, placed-all, same-rule}
 use borrow.Author.Needs.{needs}

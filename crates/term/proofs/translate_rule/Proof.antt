@@ -1,5 +1,4 @@
 -- `term::translate_rule` meets its contract: 5, 8 and 9 in their order, or the nodes that are made. Assumes nothing.
-use mathlib.Core.Path.{_≡_, _∙_}
 use native.Mathlib.Omega.{arith}
 use Rattle.term.proofs.Outcomes.{no-rule, sized, refused-rule, refused-nodes, refused-frames, not-refused}
 use borrow.Author.Needs.{needs}

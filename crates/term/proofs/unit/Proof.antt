@@ -1,6 +1,6 @@
 -- `term::unit` meets its contract. The loop's invariant: u is what a leaf counts under i abstractions. Assumes nothing.
 use Prim.Native.Nat.{_-_, _≤_}
-use mathlib.Core.Path.{_≡_, refl, sym, ap, _∙_}
+use mathlib.Core.Path.{_≡_, refl, ap, _∙_}
 use native.Mathlib.Omega.{arith}
 use Rattle.term.specs.Weight.{unit}
 use Rattle.term.proofs.Weights.{unit-most, unit-more}
