@@ -7,3 +7,4 @@ pub mod Complete
 pub mod Frames
 pub mod Steps
 pub mod Settled
+pub mod Vectors

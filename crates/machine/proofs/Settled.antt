@@ -1,14 +1,13 @@
 -- Laws for each way that the code of Apply ends, over plain values. Assumes nothing.
-use Prim.Native.Nat.{ℕ, _*_, _/_, _≤_, _<_}
-use mathlib.Core.Path.{_≡_, refl, sym, _∙_, subst}
-use mathlib.Core.Bool.{true}
+use Prim.Native.Nat.{ℕ, _*_, _≤_, _<_}
+use mathlib.Core.Path.{_≡_, sym, _∙_, subst}
+use mathlib.Core.Bool.{Bool}
 use mathlib.Core.List.{List}
-use mathlib.Core.Option.{none, some}
 use native.Mathlib.Omega.{arith}
 use lib.ListN.{length}
 use lib.Dec.{leb}
 use borrow.Author.Tests.{lt-ltb, le-ltb, leb-true}
-use Rattle.table.specs.Nodes.{capacity, cleared}
+use Rattle.table.specs.Nodes.{cleared}
 use Rattle.table.specs.Outcome.{Outcome, whole, frames, zeros, atEntry, stopped}
 use Rattle.table.specs.Code.{refusalOf}
 use Rattle.table.specs.declared.Checked.{Checked}
@@ -17,16 +16,15 @@ use Rattle.table.specs.declared.Refusal.{Refusal}
 use Rattle.table.specs.declared.Refusal.the-variants.{Steps, Nodes, Frames}
 use Rattle.table.specs.declared.Refusal.the-variants as refusal
 use Rattle.table.proofs.Words.{cleared-all}
-use Rattle.table.proofs.Entry.{Entered, entered}
+use Rattle.table.proofs.Entry.{Entered, entered, enters}
 use Rattle.machine.specs.declared.Applied.{Applied}
 use Rattle.machine.specs.declared.Applied.the-variants.{Node, Refused}
 use Rattle.machine.specs.declared.End.{End}
 use Rattle.machine.specs.declared.End.the-variants as ended
-use Rattle.machine.specs.declared.Machine.{Machine}
 use Rattle.machine.specs.declared.Turned.{Turned}
 use Rattle.machine.specs.Machine.{Turn, more, done, stop, uses}
 use Rattle.machine.specs.Apply.{settle, begin, apply}
-use Rattle.machine.specs.Code.{endOf, turnOf, Good}
+use Rattle.machine.specs.Code.{endOf, turnOf}
 use Rattle.machine.proofs.States.{Later, uses-later}
 use Rattle.machine.proofs.Cases.{good-begin}
 
@@ -39,23 +37,22 @@ module _ (u : ℕ) (w s y z : List ℕ) (x : Turned) (a : Applied) (stack : z �
   unfolding settle
   settle-done e r = rw (e, r, all-zeros)
 
-  module _ (r : Refusal) (refused : a ≡ Refused r) (nodes : y ≡ cleared w (u * 2) (x .state .used * 2)) where
-    undone : whole a y z ≡ stopped (Refused r) (record { words = w; used = x .state .used }) u s
-    unfolding stopped
-    undone = rw (refused, nodes, all-zeros)
-
   module _ (nodes : y ≡ cleared w (u * 2) (x .state .used * 2)) where
+    undone : (e : Refusal) → a ≡ Refused e → whole a y z ≡ stopped (Refused e) (record { words = w; used = x .state .used }) u s
+    unfolding stopped
+    undone e r = rw (r, nodes, all-zeros)
+
     pub settle-more : x .end ≡ ended.More → a ≡ Refused Steps → whole a y z ≡ settle u s (turnOf x w s)
     unfolding settle
-    settle-more e r = rw e (undone Steps r nodes)
+    settle-more e r = rw e (undone Steps r)
 
     pub settle-nodes : x .end ≡ ended.Nodes → a ≡ Refused Nodes → whole a y z ≡ settle u s (turnOf x w s)
     unfolding settle
-    settle-nodes e r = rw e (undone Nodes r nodes)
+    settle-nodes e r = rw e (undone Nodes r)
 
     pub settle-frames : x .end ≡ ended.Frames → a ≡ Refused Frames → whole a y z ≡ settle u s (turnOf x w s)
     unfolding settle
-    settle-frames e r = rw e (undone Frames r nodes)
+    settle-frames e r = rw e (undone Frames r)
 
 -- the stack is cleared, so only its length matters
 same-zeros : (u : ℕ) (z s : List ℕ) → length z ≡ length s → (x : Turn) → settle u z x ≡ settle u s x
@@ -64,45 +61,42 @@ same-zeros u z s l (more y) = rw l
 same-zeros u z s l (done p k) = rw l
 same-zeros u z s l (stop e t) = rw l
 
--- Apply by its checks, and by the uses that follow them.
-module _ (w : List ℕ) (u : ℕ) (s : List ℕ) (f n limit : ℕ) (x : Checked) (checked : refusalOf x ≡ atEntry (leb limit 1000000) w u s) where
-  pub refuse-entry : (e : Refusal) → x ≡ check.Refused e → whole (Refused e) w s ≡ apply w u s f n limit
+-- Apply by the code's check
+pub refuse-entry : (w : List ℕ) (u : ℕ) (s : List ℕ) (f n limit : ℕ) {x : Checked} {e : Refusal}
+    → refusalOf x ≡ atEntry (leb limit 1000000) w u s → x ≡ check.Refused e → whole (Refused e) w s ≡ apply w u s f n limit
+unfolding apply
+refuse-entry w u s f n limit p q = rw (← p, q)
+
+pub passed-by : {own : Bool} {w : List ℕ} {u : ℕ} {s : List ℕ} {x : Checked} → refusalOf x ≡ atEntry own w u s → x ≡ check.Sound → Entered own w u s
+passed-by {own} {w} {u} {s} p q = entered own w u s (rw (← p, q))
+
+module _ {w : List ℕ} {u : ℕ} {s : List ℕ} (f n limit : ℕ) (i : Entered (leb limit 1000000) w u s) where
+  pub within-limit : limit ≤ 1000000
+  within-limit = leb-true limit 1000000 (i .owned)
+
+  pub refuse-function : u ≤ f → whole (Refused refusal.Node) w s ≡ apply w u s f n limit
   unfolding apply
-  refuse-entry e q = rw (← checked, q)
+  refuse-function h = rw (enters i, le-ltb f u h)
 
-  module _ (passed : x ≡ check.Sound) where
-    fits-all : Entered (leb limit 1000000) w u s
-    fits-all = entered (leb limit 1000000) w u s (rw (← checked, passed))
-
-    pub within-limit : limit ≤ 1000000
-    within-limit = leb-true limit 1000000 (fits-all .owned)
-
-    pub refuse-function : u ≤ f → whole (Refused refusal.Node) w s ≡ apply w u s f n limit
+  module _ (function-in : f < u) where
+    pub refuse-argument : u ≤ n → whole (Refused refusal.Node) w s ≡ apply w u s f n limit
     unfolding apply
-    refuse-function h = rw (← checked, passed, le-ltb f u h)
+    refuse-argument h = rw (enters i, lt-ltb f u function-in, le-ltb n u h)
 
-    module _ (function-in : f < u) where
-      pub refuse-argument : u ≤ n → whole (Refused refusal.Node) w s ≡ apply w u s f n limit
+    -- Apply by its uses: y and z are the words of table and stack after them
+    module _ (argument-in : n < u) (t : Turned) (y z : List ℕ) (used : turnOf t y z ≡ uses (frames s) limit (begin w u f n)) where
+      -- no node is lost, and those in use lie in the table
+      pub used-in : (u ≤ t .state .used) × (t .state .used * 2 ≤ length y)
+      used-in = go (t .end) (subst (Later (frames s) (begin w u f n .table)) (sym used) (uses-later limit (good-begin i function-in argument-in)))
+        where
+          go : (e : End) → Later (frames s) (begin w u f n .table) (endOf e (t .state) y z) → (u ≤ t .state .used) × (t .state .used * 2 ≤ length y)
+          go ended.More l = (l .extends .kept .up, omega (arith, l .fine .within))
+          go ended.Done l = (l .extends .kept .up, omega (arith, l .fine .within))
+          go ended.Nodes l = (l .extends .kept .up, omega (arith, l .fine .within))
+          go ended.Frames l = (l .extends .kept .up, omega (arith, l .fine .within))
+
+      pub settled : (o : Outcome Applied) → length z ≡ length s → o ≡ settle u z (turnOf t y z) → o ≡ apply w u s f n limit
       unfolding apply
-      refuse-argument h = rw (← checked, passed, lt-ltb f u function-in, le-ltb n u h)
-
-      module _ (argument-in : n < u) where
-        pub good-start : Good (frames s) (begin w u f n)
-        good-start = good-begin fits-all function-in argument-in
-
-        -- y and z are the words of table and stack after the uses
-        module _ (t : Turned) (y z : List ℕ) (used : turnOf t y z ≡ uses (frames s) limit (begin w u f n)) where
-          -- no node is lost, and those in use lie in the table
-          pub used-in : (u ≤ t .state .used) × (t .state .used * 2 ≤ length y)
-          used-in = go (t .end) (subst (Later (frames s) (begin w u f n .table)) (sym used) (uses-later limit good-start))
-            where
-              go : (e : End) → Later (frames s) (begin w u f n .table) (endOf e (t .state) y z) → (u ≤ t .state .used) × (t .state .used * 2 ≤ length y)
-              go ended.More l = (l .extends .kept .up, omega (arith, l .fine .within))
-              go ended.Done l = (l .extends .kept .up, omega (arith, l .fine .within))
-              go ended.Nodes l = (l .extends .kept .up, omega (arith, l .fine .within))
-              go ended.Frames l = (l .extends .kept .up, omega (arith, l .fine .within))
-
-          pub settled : (o : Outcome Applied) → length z ≡ length s → o ≡ settle u z (turnOf t y z) → o ≡ apply w u s f n limit
-          unfolding apply
-          settled o l r =
-              rw (← checked, passed, lt-ltb f u function-in, lt-ltb n u argument-in) (r ∙ rw used (same-zeros u z s l (uses (frames s) limit (begin w u f n))))
+      settled o l r =
+          rw (enters i, lt-ltb f u function-in, lt-ltb n u argument-in)
+          (r ∙ rw used (same-zeros u z s l (uses (frames s) limit (begin w u f n))))

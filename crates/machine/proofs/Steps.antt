@@ -1,17 +1,18 @@
 -- Laws for each way that the code of a use goes, over plain values. Assumes nothing.
-use Prim.Native.Nat.{ℕ, zero, suc, _+_, _-_, _*_, _/_, _≤_, _<_}
-use mathlib.Core.Path.{_≡_, refl, sym, ap, _∙_, subst}
-use mathlib.Core.List.{List, [], _∷_}
+use Prim.Native.Nat.{ℕ, zero, suc, _+_, _-_, _*_, _≤_, _<_}
+use mathlib.Core.Path.{_≡_, sym, _∙_, subst}
+use mathlib.Core.List.{List, _∷_}
 use native.Mathlib.Omega.{arith}
 use lib.ListN.{length}
 use borrow.Author.Tests.{lt-ltb, le-ltb}
-use Rattle.table.specs.Nodes.{Table, capacity, first, make}
+use Rattle.table.specs.Nodes.{capacity, first, make}
 use Rattle.table.specs.Outcome.{frames}
 use Rattle.table.specs.Code.{placedBy}
 use Rattle.table.specs.declared.NewNode.{NewNode}
 use Rattle.table.specs.declared.Refusal.the-variants.{Nodes, Frames}
 use Rattle.table.proofs.Words.{sound-node}
 use Rattle.machine.specs.declared.Rule.{Rule}
+use Rattle.machine.specs.declared.Rule.the-variants.{Leaf, Stem, Drop, Spread, Triage}
 use Rattle.machine.specs.declared.Frame.{Frame}
 use Rattle.machine.specs.declared.Frame.the-variants.{SpreadFirst, SpreadSecond, TriageFirst}
 use Rattle.machine.specs.declared.Machine.{Machine}
@@ -72,43 +73,76 @@ module _ (m : Machine) (w s : List ℕ) (e : Frame) (f n : ℕ) where
   hold-free z x h r q =
       rw (length-frames s (m .held), lt-ltb (m .held) (frames s) h, q, r, frames-pushed s (m .held) e (omega arith))
 
+-- the node applied and its first branch lie in the table
+pub reach : (m : Machine) (w s : List ℕ) → Good (frames s) (stateOf m w s)
+    → (m .function * 2 + 1 < length w) × ((first w (m .function) - 1) * 2 + 1 < length w)
+reach m w s g =
+    let a = sound-node w (m .used) (m .function) (g .function-in) (g .fine .unbroken) in
+    (omega (arith, g .function-in, g .fine .within), omega (arith, a .first-in, g .function-in, g .fine .within))
+
+-- What the code of a rule asks of the numbers that it takes on: the frames held lie in the stack, and the nodes named fit a word.
+pub record Asks (m : Machine) (w s : List ℕ) (r : Rule) : Type 0 where
+  pub short : length w ≤ 131072
+  pub held : m .held * 3 ≤ length s
+  pub argument : m .argument < 65536
+  pub named : RuleIn 65536 r
+
+pub asks : (m : Machine) (w s : List ℕ) → Good (frames s) (stateOf m w s) → (r : Rule) → rule w (m .function) ≡ r → Asks m w s r
+asks m w s g r e =
+    record {
+      short = g .fine .short;
+      held = omega (arith, g .held-in, length-frames s (m .held));
+      argument = omega (arith, g .argument-in, g .fine .short, g .fine .within);
+      named = named-up r (omega (arith, g .fine .short, g .fine .within)) (subst (RuleIn (m .used)) e (rule-in (g .fine) (m .function) (g .function-in)));
+    }
+  where
+    named-up : (r : Rule) → m .used ≤ 65536 → RuleIn (m .used) r → RuleIn 65536 r
+    named-up Leaf h i = tt
+    named-up (Stem p) h i = omega arith
+    named-up (Drop y) h i = omega arith
+    named-up (Spread p y) h i = (omega (arith, i .0), omega (arith, i .1))
+    named-up (Triage p q) h i = (omega (arith, i .0), omega (arith, i .1))
+
 -- the rule that is wanted is used
 pub by-rule : (all : ℕ) (s : State) (x : Turn) (r : Rule) → rule (s .table .words) (s .function) ≡ r → x ≡ useRule all s r → x ≡ turn all s
 unfolding turn
 by-rule all s x r e q = rw e q
 
--- What a good state says of the numbers that a use reads and writes: the node applied and its first branch lie in the table, the frames held
--- in the stack, and the nodes that a rule names fit a word.
-module _ (m : Machine) (w s : List ℕ) (g : Good (frames s) (stateOf m w s)) where
-  pub reach : (m .function * 2 + 1 < length w) × ((first w (m .function) - 1) * 2 + 1 < length w)
-  reach =
-      let a = sound-node w (m .used) (m .function) (g .function-in) (g .fine .unbroken) in
-      (omega (arith, g .function-in, g .fine .within), omega (arith, a .first-in, g .function-in, g .fine .within))
-
-  pub held-below : m .held * 3 ≤ length s
-  held-below = omega (arith, g .held-in, length-frames s (m .held))
-
-  pub used-small : m .used ≤ 65536
-  used-small = omega (arith, g .fine .short, g .fine .within)
-
-  pub argument-small : m .argument < 65536
-  argument-small = omega (arith, g .argument-in, used-small)
-
-  pub named : (r : Rule) → rule w (m .function) ≡ r → RuleIn (m .used) r
-  named r e = subst (RuleIn (m .used)) e (rule-in (g .fine) (m .function) (g .function-in))
-
--- a use that ends the run, and one that it goes on from
 uses-turn : (all k : ℕ) (s : State) → 0 < k → uses all k s ≡ after (uses all (k - 1)) (turn all s)
 unfolding uses
 uses-turn all zero s h = absurd (omega arith)
 uses-turn all (suc k) s h = let q : suc k - 1 ≡ k = omega arith in rw q
 
-pub uses-end : (all k : ℕ) (s : State) (x : Turn) → 0 < k → x ≡ turn all s → ((go : State → Turn) → after go x ≡ x) → x ≡ uses all k s
-uses-end all k s x h e f = sym (uses-turn all k s h ∙ rw (← e) (f (uses all (k - 1))))
+-- A run of at most `budget` uses from `begun`, at the state s after `taken` of them: what is left of the budget leads to what all of it does.
+pub record Going (all : ℕ) (begun : State) (budget : ℕ) (s : State) (taken : ℕ) : Type 0 where
+  pub within : taken ≤ budget
+  pub counted : s .steps ≡ begun .steps + taken
+  pub good : Good all s
+  pub leads : uses all (budget - taken) s ≡ uses all budget begun
 
-pub uses-on : (all k : ℕ) (s z : State) → 0 < k → more z ≡ turn all s → uses all (k - 1) z ≡ uses all k s
-unfolding after
-uses-on all k s z h e = sym (uses-turn all k s h ∙ rw (← e))
+pub going-start : {all : ℕ} {s : State} (budget : ℕ) → Good all s → Going all s budget s 0
+going-start budget g =
+    let q : budget - 0 ≡ budget = omega arith in
+    record { within = omega arith; counted = omega arith; good = g; leads = rw q }
 
-pub turn-good : {all : ℕ} {s : State} (z : State) → Good all s → more z ≡ turn all s → Later all (s .table) (more z) × (z .steps ≡ s .steps + 1)
-turn-good {all} {s} z g e = (subst (Later all (s .table)) (sym e) (turn-later g), subst (Counted (s .steps) 1) (sym e) (turn-steps all s))
+-- a use that goes on, one that ends the run, and the last one that the budget allows
+module _ {all : ℕ} {begun : State} {budget : ℕ} {s : State} {taken : ℕ} (r : Going all begun budget s taken) where
+  pub going-on : (z : State) → taken < budget → more z ≡ turn all s → Going all begun budget z (taken + 1)
+  unfolding after
+  going-on z h e =
+      let l : Later all (s .table) (more z) = subst (Later all (s .table)) (sym e) (turn-later (r .good)) in
+      let c : Counted (s .steps) 1 (more z) = subst (Counted (s .steps) 1) (sym e) (turn-steps all s) in
+      let q : budget - (taken + 1) ≡ budget - taken - 1 = omega arith in
+      record {
+        within = omega arith;
+        counted = omega (arith, c, r .counted);
+        good = l .ready;
+        leads = rw q (sym (uses-turn all (budget - taken) s (omega arith) ∙ rw (← e)) ∙ r .leads);
+      }
+
+  pub going-over : (x : Turn) → taken < budget → x ≡ turn all s → ((go : State → Turn) → after go x ≡ x) → x ≡ uses all budget begun
+  going-over x h e f = sym (uses-turn all (budget - taken) s (omega arith) ∙ rw (← e) (f (uses all (budget - taken - 1)))) ∙ r .leads
+
+  pub going-out : budget ≤ taken → more s ≡ uses all budget begun
+  unfolding uses
+  going-out h = let q : budget - taken ≡ 0 = omega arith in rw q at (r .leads)

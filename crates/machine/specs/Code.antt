@@ -4,7 +4,7 @@ use mathlib.Core.Bool.{cond}
 use mathlib.Core.List.{List, [], _∷_}
 use lib.ListN.{length, getD, set}
 use lib.Dec.{eqb}
-use Rattle.table.specs.Nodes.{Table, Sound}
+use Rattle.table.specs.Nodes.{Sound}
 use Rattle.table.specs.declared.Refusal.the-variants.{Nodes, Frames}
 use Rattle.machine.specs.declared.Frame.{Frame}
 use Rattle.machine.specs.declared.Frame.the-variants.{SpreadFirst, SpreadSecond, TriageFirst}

@@ -234,15 +234,15 @@ fn uses(table: &mut [u32], stack: &mut [u32], begun: Machine, budget: usize) -> 
     ensures { λ r. ⌜ turnOf r (now (table .exit)) (now (stack .exit)) ≡ uses (frames (now (stack .entry))) budget (stateOf begun (now (table .entry)) (now (stack .entry))) ⌝ }
 {
     let mut state = begun;
-    let mut left = budget;
-    while 0 < left {
+    let mut taken = 0;
+    while taken < budget {
         let turned = turn(table, stack, state);
         let end = turned.end;
         let End::More = end else {
             return turned;
         };
         state = turned.state;
-        left -= 1;
+        taken += 1;
     }
     Turned {
         state: state,

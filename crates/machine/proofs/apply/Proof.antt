@@ -1,7 +1,7 @@
 -- `machine::apply` meets its contract: the checks at entry, the uses, and how they end. Assumes nothing.
-use mathlib.Core.Path.{_∙_}
 use Rattle.machine.specs.Code.{framesOf}
-use Rattle.machine.proofs.Settled.{refuse-entry, refuse-function, refuse-argument, within-limit, good-start, used-in, settled}
+use Rattle.machine.proofs.Cases.{good-begin}
+use Rattle.machine.proofs.Settled.{refuse-entry, passed-by, refuse-function, refuse-argument, within-limit, used-in, settled}
 use borrow.Author.Needs.{needs}
 use native.Mathlib.Omega.{arith}
 use Rattle.machine.proofs.apply.Statement.{statement}
@@ -24,7 +24,7 @@ returns c =
     let k = c .before in
     let h = k .before .before in
     let a = h .before .before .before .before .before .args in
-    refuse-entry (a .table .now) (a .used) (a .stack .now) (a .function) (a .argument) (a .limit) (h .check .result) (h .check .ensures) (k .checked .given .0 .0) (k .checked .given .1)
+    refuse-entry (a .table .now) (a .used) (a .stack .now) (a .function) (a .argument) (a .limit) (h .check .ensures) (k .checked .given .1)
 
 enum-told : tie.Need-enum-told
 enum-told c = search needs
@@ -40,7 +40,7 @@ returns-2 c =
     let k = c .before in
     let h = k .before .before in
     let a = h .before .before .before .before .before .args in
-    refuse-function (a .table .now) (a .used) (a .stack .now) (a .function) (a .argument) (a .limit) (h .check .result) (h .check .ensures) (k .enum-told .given .1) (c .if1 .taken)
+    refuse-function (a .function) (a .argument) (a .limit) (passed-by (h .check .ensures) (k .enum-told .given .1)) (omega arith)
 
 same-length-5 : tie.Need-same-length-5
 same-length-5 c = search needs
@@ -53,17 +53,16 @@ returns-3 c =
     let k = c .before .before in
     let h = k .before .before in
     let a = h .before .before .before .before .before .args in
-    refuse-argument (a .table .now) (a .used) (a .stack .now) (a .function) (a .argument) (a .limit) (h .check .result) (h .check .ensures) (k .enum-told .given .1) (c .before .if1 .left) (c .if2 .taken)
+    refuse-argument (a .function) (a .argument) (a .limit) (passed-by (h .check .ensures) (k .enum-told .given .1)) (omega arith) (omega arith)
 
 uses-requires : tie.Need-uses-requires
 unfolding framesOf
 uses-requires c κs =
-    let d = c .before .before in
-    let k = d .before .before in
+    let k = c .before .before .before .before in
     let h = k .before .before in
     let a = h .before .before .before .before .before .args in
-    let l = within-limit (a .table .now) (a .used) (a .stack .now) (a .function) (a .argument) (a .limit) (h .check .result) (h .check .ensures) (k .enum-told .given .1) in
-    (good-start (a .table .now) (a .used) (a .stack .now) (a .function) (a .argument) (a .limit) (h .check .result) (h .check .ensures) (k .enum-told .given .1) (d .before .if1 .left) (d .if2 .left), omega arith)
+    let i = passed-by (h .check .ensures) (k .enum-told .given .1) in
+    (good-begin i (omega arith) (omega arith), omega (arith, within-limit (a .function) (a .argument) (a .limit) i))
 
 settle-requires : tie.Need-settle-requires
 unfolding framesOf
@@ -73,8 +72,7 @@ settle-requires c κs =
     let k = d .before .before in
     let h = k .before .before in
     let a = h .before .before .before .before .before .args in
-    used-in (a .table .now) (a .used) (a .stack .now) (a .function) (a .argument) (a .limit) (h .check .result) (h .check .ensures) (k .enum-told .given .1) (d .before .if1 .left) (d .if2 .left)
-    (r .uses .result) (r .uses .last .0) (r .uses .last .1 .0) (r .uses .ensures)
+    used-in (a .function) (a .argument) (a .limit) (passed-by (h .check .ensures) (k .enum-told .given .1)) (d .before .if1 .left) (d .if2 .left) (r .uses .result) (r .uses .last .0) (r .uses .last .1 .0) (r .uses .ensures)
 
 same-length-7 : tie.Need-same-length-7
 same-length-7 c = search needs
@@ -91,8 +89,8 @@ returns-4 c =
     let k = d .before .before in
     let h = k .before .before in
     let a = h .before .before .before .before .before .args in
-    settled (a .table .now) (a .used) (a .stack .now) (a .function) (a .argument) (a .limit) (h .check .result) (h .check .ensures) (k .enum-told .given .1) (d .before .if1 .left) (d .if2 .left)
-    (r .uses .result) (r .uses .last .0) (r .uses .last .1 .0) (r .uses .ensures) _ (r .uses .kept .1 .0) (e .settle .ensures)
+    settled (a .function) (a .argument) (a .limit) (passed-by (h .check .ensures) (k .enum-told .given .1)) (d .before .if1 .left) (d .if2 .left) (r .uses .result) (r .uses .last .0) (r .uses .last .1 .0) (r .uses .ensures) _
+    (r .uses .kept .1 .0) (e .settle .ensures)
 
 pub apply-spec : {M : Type 1} → statement M
 apply-spec =

@@ -11,7 +11,7 @@ use Rattle.machine.proofs.grow.Tie as tie
 returns : tie.Need-returns
 returns c =
     let a = c .before .before .before .args in
-    grow-full (a .state) (a .table .now) (a .stack .now) (a .a) (a .b) (c .if1 .taken)
+    grow-full (a .state) (a .table .now) (a .stack .now) (a .a) (a .b) (omega arith)
 
 new-node-requires : tie.Need-new-node-requires
 new-node-requires c κs = search needs
@@ -38,7 +38,7 @@ returns-2 c =
     let n = r .before .before .before .before .before in
     let a = n .before .before .before .before .before .args in
     grow-free (a .state) (a .table .now) (a .stack .now) (a .a) (a .b) (n .new-node .result) (n .new-node .last .0) _
-    (n .before .before .if1 .left) (n .new-node .ensures) (r .resume .ensures (n .new-node .last .0))
+    (omega (arith, n .before .before .if1 .left)) (n .new-node .ensures) (r .resume .ensures (n .new-node .last .0))
 
 pub grow-spec : {M : Type 1} → statement M
 grow-spec =

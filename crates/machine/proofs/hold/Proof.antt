@@ -1,5 +1,6 @@
 -- `machine::hold` meets its contract, for the words of any table: a frame is free or not. Assumes nothing.
 use Rattle.machine.proofs.Steps.{hold-full, hold-free}
+use native.Mathlib.Omega.{arith}
 use borrow.Author.Needs.{needs}
 use Rattle.machine.proofs.hold.Statement.{statement}
 use Rattle.machine.proofs.hold.Tie as tie
@@ -7,7 +8,7 @@ use Rattle.machine.proofs.hold.Tie as tie
 returns : tie.Need-returns
 returns c =
     let a = c .before .before .args in
-    λ w. hold-full (a .state) w (a .stack .now) (a .frame) (a .f) (a .n) (c .if1 .taken)
+    λ w. hold-full (a .state) w (a .stack .now) (a .frame) (a .f) (a .n) (omega arith)
 
 push-requires : tie.Need-push-requires
 push-requires c κs = search needs
@@ -29,7 +30,7 @@ returns-2 c =
     let p = c .before .before .before .before in
     let a = p .before .before .before .before .args in
     λ w. hold-free (a .state) w (a .stack .now) (a .frame) (a .f) (a .n) (p .push .last .0) _
-    (p .before .before .if1 .left) (p .push .ensures) (c .more .ensures)
+    (omega (arith, p .before .before .if1 .left)) (p .push .ensures) (c .more .ensures)
 
 pub hold-spec : {M : Type 1} → statement M
 hold-spec =
