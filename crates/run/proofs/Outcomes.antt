@@ -47,14 +47,18 @@ pub data ReadStops (w s : List ℕ) : ℕ → List (List ℕ) → Refusal → �
       → ReadStops w s (u + length l) ls e m → ReadStops w s u (l ∷ ls) e m
 
 -- The application that is refused with e: the arguments before it were applied to in k steps; then the node `function` was applied to the node
--- `argument` of the table, and a use lacked what e names. For 7 this means that the whole run does not end within the limit.
-pub record ApplyStops (s : List ℕ) (p : Packet) (t : Term) (args : List Tree) (e : Refusal) : Type 0 where
+-- `argument` of the table that Run's table had become, and a use lacked what e names. For 7 this means that the whole run does not end within the limit.
+pub record ApplyStops (w s : List ℕ) (p : Packet) (t : Term) (args : List Tree) (e : Refusal) : Type 0 where
   pub before : List Tree
   pub after : List Tree
   pub table : Table
   pub function : ℕ
   pub argument : ℕ
   pub k : ℕ
+  pub fine : Sound table
+  pub extends : Extends (record { words = w; used = 0 }) table
+  pub function-in : function < table .used
+  pub argument-in : argument < table .used
   pub arguments-are : args ≡ before ++ (treeAt (table .words) argument ∷ after)
   pub so-far : ApplyAll (ruleTree t) before (treeAt (table .words) function) k
   pub within-limit : k ≤ p .limit
@@ -67,7 +71,7 @@ pub data Stops (w s o : List ℕ) (p : Packet) (t : Term) (args : List Tree) : R
   translate-nodes : capacity w < size (ruleTree t) → Stops w s o p t args Nodes 0
   translate-frames : size (ruleTree t) ≤ capacity w → frames s < 2 * size (ruleTree t) → Stops w s o p t args Frames 0
   in-read : {e : Refusal} {m : ℕ} → ReadStops w s (size (ruleTree t)) (p .arguments) e m → Stops w s o p t args e m
-  in-apply : {e : Refusal} {m : ℕ} → ApplyStops s p t args e → Count p t (p .limit) m → Stops w s o p t args e m
+  in-apply : {e : Refusal} {m : ℕ} → ApplyStops w s p t args e → Count p t (p .limit) m → Stops w s o p t args e m
   in-write : {e : Refusal} {m : ℕ} {r : Tree} {k : ℕ} → ApplyAll (ruleTree t) args r k → k ≤ p .limit → Spent (frames s) 0 r (length o) (lacks e)
       → Count p t k m → Stops w s o p t args e m
 

@@ -41,7 +41,7 @@ Late Frames = Unit {0}
 Late Out = Unit {0}
 
 -- a stage stops for nodes, frames or out bytes, or an application for steps
-pub stops-by : (P : Refusal → Type 0) {w s o : List ℕ} {p : Packet} {t : Term} {args : List Tree} → (ApplyStops s p t args Steps → P Steps) → P Nodes → P Frames → P Out
+pub stops-by : (P : Refusal → Type 0) {w s o : List ℕ} {p : Packet} {t : Term} {args : List Tree} → (ApplyStops w s p t args Steps → P Steps) → P Nodes → P Frames → P Out
     → {e : Refusal} {m : ℕ} → Stops w s o p t args e m → P e
 stops-by P a b c d (translate-nodes h) = b
 stops-by P a b c d (translate-frames h k) = c
@@ -51,8 +51,8 @@ stops-by P a b c d (in-read r) = go r
     go (no-nodes h) = b
     go (no-frames h k) = c
     go (later h k r) = go r
-stops-by P {s = s} {p = p} {t = t} {args = args} a b c d (in-apply {e = e} x h) =
-    says-by (λ (e : Refusal). ApplyStops s p t args e → P e) absurd absurd absurd (λ l. a) (λ l y. b) (λ l y. c) e (x .lacking) x
+stops-by P {w = w} {s = s} {p = p} {t = t} {args = args} a b c d (in-apply {e = e} x h) =
+    says-by (λ (e : Refusal). ApplyStops w s p t args e → P e) absurd absurd absurd (λ l. a) (λ l y. b) (λ l y. c) e (x .lacking) x
 stops-by P a b c d (in-write x h r l) = go r
   where
     go : {all held n : ℕ} {r : Tree} {e : Refusal} → Spent all held r n (lacks e) → P e

@@ -164,6 +164,10 @@ module _ {w s o : List ℕ} (fit : Fit w s o) (p : Packet) (t : Term) (args : Li
               function = v;
               argument = n;
               k = k;
+              fine = st .fine;
+              extends = st .extends;
+              function-in = a .root .inside;
+              argument-in = h .inside;
               arguments-are = rw (h .tree) m;
               so-far = rw (a .root .tree) (a .so-far);
               within-limit = a .within-limit;
