@@ -5,11 +5,11 @@ use mathlib.Core.Bool.{Bool, true, false, cond, _&&_}
 use mathlib.Core.List.{List, [], _∷_}
 use mathlib.Core.Option.{Option, none, some}
 use native.Mathlib.Omega.{arith}
-use lib.ListN.{length, getD}
+use lib.ListN.{length, getD, take, drop}
 use lib.Dec.{leb, eqb}
 use borrow.Author.Tests.{leb-true, leb-false, eqb-true, eqb-false}
 use Rattle.packet.specs.Packet.{Field, before, fields, Packet, highFirst, withArgument, lastField, afterRule, packet}
-use Rattle.packet.specs.Code.{endAt, valueAt, Stand, valuesAt, fieldsFrom, afterFields, formOf}
+use Rattle.packet.specs.Code.{sizeAt, endAt, valueAt, Stand, valuesAt, fieldsFrom, afterFields, formOf}
 use Rattle.packet.specs.declared.Form.the-variants.{Whole, Broken}
 use Rattle.packet.proofs.Fields.{fields-end, fields-broken, fields-next}
 use Rattle.packet.proofs.Forms.{packet-long, packet-nothing, packet-tag, packet-after}
@@ -106,3 +106,20 @@ packet-parts l k n e = short (leb (length l) 16384) refl
     short : (z : Bool) → leb (length l) 16384 ≡ z → Parts l k n
     short true f = found (leb-true (length l) 16384 f) (leb (endAt l 0) (length l)) refl
     short false f = no (packet-long l (leb-false (length l) 16384 f))
+
+-- the next of k fields, i of which are passed
+pub record Next (l : List ℕ) (at k i : ℕ) : Type 0 where
+  pub stands : endAt l at ≤ length l
+  pub stand : Stand l (endAt l at) (k - (i + 1))
+  pub values : valuesAt l at (k - i) ≡ valueAt l at ∷ valuesAt l (endAt l at) (k - (i + 1))
+
+pub next-field : (l : List ℕ) (at k i : ℕ) → i < k → Stand l at (k - i) → Next l at k i
+unfolding Stand valuesAt
+next-field l at k i h s =
+    let e : k - i ≡ suc (k - (i + 1)) = omega arith in
+    let t = rw e at s in
+    record { stands = t .0; stand = t .1; values = rw e }
+
+-- a field's value is the part of the packet from its start to its end
+pub part-value : (l : List ℕ) (at : ℕ) → take (endAt l at - (at + 3)) (drop (at + 3) l) ≡ valueAt l at
+part-value l at = let e : endAt l at - (at + 3) ≡ sizeAt l at = omega arith in rw e
