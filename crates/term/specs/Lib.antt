@@ -1,1 +1,3 @@
 pub mod Translate
+pub mod Words
+pub mod Weight
