@@ -17,7 +17,8 @@ use Rattle.table.proofs.Entry.{Entered, entered}
 use Rattle.machine.specs.declared.Applied.the-variants.{Node, Refused}
 use Rattle.machine.specs.Machine.{uses}
 use Rattle.machine.specs.Apply.{settle, begin, apply}
-use Rattle.machine.proofs.States.{cond-by, Good}
+use Rattle.machine.specs.Code.{Good}
+use Rattle.machine.proofs.States.{cond-by}
 
 -- what a refusal of Apply says: one thing at entry, and one each for steps, nodes and frames; Apply has no other refusal
 abbrev pub Says : Type 0 → Type 0 → Type 0 → Type 0 → Refusal → Type 0

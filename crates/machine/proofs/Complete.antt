@@ -18,7 +18,8 @@ use Rattle.table.proofs.Entry.{Entered, enters}
 use Rattle.machine.specs.declared.Applied.the-variants.{Node, Refused}
 use Rattle.machine.specs.Machine.{State, Turn, more, done, stop, turn, after, uses}
 use Rattle.machine.specs.Apply.{settle, begin, apply}
-use Rattle.machine.proofs.States.{Good, tableOf, Later, turn-later, Counted, turn-steps}
+use Rattle.machine.specs.Code.{Good}
+use Rattle.machine.proofs.States.{tableOf, Later, turn-later, Counted, turn-steps}
 use Rattle.machine.proofs.Leads.{Leads, TurnLeads, leads-same, leads-after, uses-some, and-then}
 use Rattle.machine.proofs.Cases.{says-by, AtEntry, Ways, refused, ran, ways, good-begin}
 use Rattle.machine.proofs.Stops.{stop-lacks}

@@ -14,7 +14,8 @@ use Rattle.table.proofs.Entry.{Entered, stopped-kept}
 use Rattle.machine.specs.declared.Applied.the-variants.{Node, Refused}
 use Rattle.machine.specs.Machine.{State, Turn, more, done, stop, turn, after, uses}
 use Rattle.machine.specs.Apply.{settle, begin, apply}
-use Rattle.machine.proofs.States.{Good, tableOf, Later, turn-later, uses-later, Counted, turn-steps, uses-steps}
+use Rattle.machine.specs.Code.{Good}
+use Rattle.machine.proofs.States.{tableOf, Later, turn-later, uses-later, Counted, turn-steps, uses-steps}
 use Rattle.machine.proofs.Leads.{Leads, TurnLeads, leads-before}
 use Rattle.machine.proofs.Cases.{Ways, refused, ran, ways, good-begin}
 

@@ -17,7 +17,8 @@ use Rattle.machine.specs.declared.Rule.the-variants.{Leaf, Stem, Drop, S
 use Rattle.machine.specs.declared.Frame.{Frame}
 use Rattle.machine.specs.declared.Frame.the-variants.{SpreadFirst, SpreadSecond, TriageFirst}
 use Rattle.machine.specs.Machine.{forkRule, rule, State, Turn, more, done, stop, resume, grow, hold, useRule, turn}
-use Rattle.machine.proofs.States.{cond-by, words-by, Good, FramesIn, RuleIn, rule-in, tableOf, turn-later}
+use Rattle.machine.specs.Code.{Good, FramesIn}
+use Rattle.machine.proofs.States.{cond-by, words-by, RuleIn, rule-in, tableOf, turn-later}
 
 -- f is applied to n, and P goes on from the outcome; k uses in all
 pub record Then (f n : Tree) (P : Tree → ℕ → Type 0) (k : ℕ) : Type 0 where

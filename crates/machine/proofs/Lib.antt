@@ -4,3 +4,7 @@ pub mod Cases
 pub mod Follows
 pub mod Stops
 pub mod Complete
+pub mod Frames
+pub mod Steps
+pub mod Settled
+pub mod Vectors

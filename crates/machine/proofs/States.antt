@@ -18,6 +18,7 @@ use Rattle.machine.specs.declared.Rule.{Rule}
 use Rattle.machine.specs.declared.Rule.the-variants.{Leaf, Stem, Drop, Spread, Triage}
 use Rattle.machine.specs.declared.Frame.{Frame}
 use Rattle.machine.specs.declared.Frame.the-variants.{SpreadFirst, SpreadSecond, TriageFirst}
+use Rattle.machine.specs.Code.{FrameIn, FramesIn, Good}
 use Rattle.machine.specs.Machine.{forkRule, rule, State, Turn, more, done, stop, resume, grow, hold, useRule, turn, after, uses}
 
 -- a choice by a test, with what the test says
@@ -42,30 +43,11 @@ RuleIn u (Drop y) = y < u
 RuleIn u (Spread p y) = (p < u) × (y < u)
 RuleIn u (Triage p q) = (p < u) × (q < u)
 
--- the nodes that a frame names are below u, and those of all frames
-abbrev pub FrameIn : ℕ → Frame → Type 0
-FrameIn u (SpreadFirst p n) = (p < u) × (n < u)
-FrameIn u (SpreadSecond v) = v < u
-FrameIn u (TriageFirst q) = q < u
-
-abbrev pub FramesIn : ℕ → List Frame → Type 0
-FramesIn u [] = Unit {0}
-FramesIn u (e ∷ fs) = FrameIn u e × FramesIn u fs
-
 frames-up : {u z : ℕ} → u ≤ z → (fs : List Frame) → FramesIn u fs → FramesIn z fs
 frames-up h [] i = tt
 frames-up h (SpreadFirst p n ∷ fs) i = ((omega (arith, i .0), omega (arith, i .0)), frames-up h fs (i .1))
 frames-up h (SpreadSecond v ∷ fs) i = (omega (arith, i .0), frames-up h fs (i .1))
 frames-up h (TriageFirst q ∷ fs) i = (omega (arith, i .0), frames-up h fs (i .1))
-
--- What holds of each state of an application with `all` frames lent: the table is sound, the nodes that it names are in use, and no more
--- frames are held than there are.
-pub record Good (all : ℕ) (s : State) : Type 0 where
-  pub fine : Sound (s .table)
-  pub function-in : s .function < s .table .used
-  pub argument-in : s .argument < s .table .used
-  pub frames-in : FramesIn (s .table .used) (s .frames)
-  pub held-in : length (s .frames) ≤ all
 
 -- the rule that a node in use takes names nodes in use
 pub rule-in : {t : Table} → Sound t → (f : ℕ) → f < t .used → RuleIn (t .used) (rule (t .words) f)

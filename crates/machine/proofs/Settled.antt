@@ -1,0 +1,102 @@
+-- Laws for each way that the code of Apply ends, over plain values. Assumes nothing.
+use Prim.Native.Nat.{ℕ, _*_, _≤_, _<_}
+use mathlib.Core.Path.{_≡_, sym, _∙_, subst}
+use mathlib.Core.Bool.{Bool}
+use mathlib.Core.List.{List}
+use native.Mathlib.Omega.{arith}
+use lib.ListN.{length}
+use lib.Dec.{leb}
+use borrow.Author.Tests.{lt-ltb, le-ltb, leb-true}
+use Rattle.table.specs.Nodes.{cleared}
+use Rattle.table.specs.Outcome.{Outcome, whole, frames, zeros, atEntry, stopped}
+use Rattle.table.specs.Code.{refusalOf}
+use Rattle.table.specs.declared.Checked.{Checked}
+use Rattle.table.specs.declared.Checked.the-variants as check
+use Rattle.table.specs.declared.Refusal.{Refusal}
+use Rattle.table.specs.declared.Refusal.the-variants.{Steps, Nodes, Frames}
+use Rattle.table.specs.declared.Refusal.the-variants as refusal
+use Rattle.table.proofs.Words.{cleared-all}
+use Rattle.table.proofs.Entry.{Entered, entered, enters}
+use Rattle.machine.specs.declared.Applied.{Applied}
+use Rattle.machine.specs.declared.Applied.the-variants.{Node, Refused}
+use Rattle.machine.specs.declared.End.{End}
+use Rattle.machine.specs.declared.End.the-variants as ended
+use Rattle.machine.specs.declared.Turned.{Turned}
+use Rattle.machine.specs.Machine.{Turn, more, done, stop, uses}
+use Rattle.machine.specs.Apply.{settle, begin, apply}
+use Rattle.machine.specs.Code.{endOf, turnOf}
+use Rattle.machine.proofs.States.{Later, uses-later}
+use Rattle.machine.proofs.Cases.{good-begin}
+
+-- Where an application ends: y and z are the words of table and stack that it leaves.
+module _ (u : ℕ) (w s y z : List ℕ) (x : Turned) (a : Applied) (stack : z ≡ cleared s 0 (length s)) where
+  all-zeros : z ≡ zeros s
+  all-zeros = stack ∙ cleared-all s
+
+  pub settle-done : x .end ≡ ended.Done → a ≡ Node (x .state .function) (x .state .used) (x .state .steps) → whole a w z ≡ settle u s (turnOf x w s)
+  unfolding settle
+  settle-done e r = rw (e, r, all-zeros)
+
+  module _ (nodes : y ≡ cleared w (u * 2) (x .state .used * 2)) where
+    undone : (e : Refusal) → a ≡ Refused e → whole a y z ≡ stopped (Refused e) (record { words = w; used = x .state .used }) u s
+    unfolding stopped
+    undone e r = rw (r, nodes, all-zeros)
+
+    pub settle-more : x .end ≡ ended.More → a ≡ Refused Steps → whole a y z ≡ settle u s (turnOf x w s)
+    unfolding settle
+    settle-more e r = rw e (undone Steps r)
+
+    pub settle-nodes : x .end ≡ ended.Nodes → a ≡ Refused Nodes → whole a y z ≡ settle u s (turnOf x w s)
+    unfolding settle
+    settle-nodes e r = rw e (undone Nodes r)
+
+    pub settle-frames : x .end ≡ ended.Frames → a ≡ Refused Frames → whole a y z ≡ settle u s (turnOf x w s)
+    unfolding settle
+    settle-frames e r = rw e (undone Frames r)
+
+-- the stack is cleared, so only its length matters
+same-zeros : (u : ℕ) (z s : List ℕ) → length z ≡ length s → (x : Turn) → settle u z x ≡ settle u s x
+unfolding settle stopped
+same-zeros u z s l (more y) = rw l
+same-zeros u z s l (done p k) = rw l
+same-zeros u z s l (stop e t) = rw l
+
+-- Apply by the code's check
+pub refuse-entry : (w : List ℕ) (u : ℕ) (s : List ℕ) (f n limit : ℕ) {x : Checked} {e : Refusal}
+    → refusalOf x ≡ atEntry (leb limit 1000000) w u s → x ≡ check.Refused e → whole (Refused e) w s ≡ apply w u s f n limit
+unfolding apply
+refuse-entry w u s f n limit p q = rw (← p, q)
+
+pub passed-by : {own : Bool} {w : List ℕ} {u : ℕ} {s : List ℕ} {x : Checked} → refusalOf x ≡ atEntry own w u s → x ≡ check.Sound → Entered own w u s
+passed-by {own} {w} {u} {s} p q = entered own w u s (rw (← p, q))
+
+module _ {w : List ℕ} {u : ℕ} {s : List ℕ} (f n limit : ℕ) (i : Entered (leb limit 1000000) w u s) where
+  pub within-limit : limit ≤ 1000000
+  within-limit = leb-true limit 1000000 (i .owned)
+
+  pub refuse-function : u ≤ f → whole (Refused refusal.Node) w s ≡ apply w u s f n limit
+  unfolding apply
+  refuse-function h = rw (enters i, le-ltb f u h)
+
+  module _ (function-in : f < u) where
+    pub refuse-argument : u ≤ n → whole (Refused refusal.Node) w s ≡ apply w u s f n limit
+    unfolding apply
+    refuse-argument h = rw (enters i, lt-ltb f u function-in, le-ltb n u h)
+
+    -- Apply by its uses: y and z are the words of table and stack after them
+    module _ (argument-in : n < u) (t : Turned) (y z : List ℕ) (used : turnOf t y z ≡ uses (frames s) limit (begin w u f n)) where
+      -- no node is lost, and those in use lie in the table
+      pub used-in : (u ≤ t .state .used) × (t .state .used * 2 ≤ length y)
+      used-in = go (t .end) (subst (Later (frames s) (begin w u f n .table)) (sym used) (uses-later limit (good-begin i function-in argument-in)))
+        where
+          go : (e : End) → Later (frames s) (begin w u f n .table) (endOf e (t .state) y z) → (u ≤ t .state .used) × (t .state .used * 2 ≤ length y)
+          go ended.More l = (l .extends .kept .up, omega (arith, l .fine .within))
+          go ended.Done l = (l .extends .kept .up, omega (arith, l .fine .within))
+          go ended.Nodes l = (l .extends .kept .up, omega (arith, l .fine .within))
+          go ended.Frames l = (l .extends .kept .up, omega (arith, l .fine .within))
+
+      pub settled : (o : Outcome Applied) → length z ≡ length s → o ≡ settle u z (turnOf t y z) → o ≡ apply w u s f n limit
+      unfolding apply
+      settled o l r =
+          rw (enters i, lt-ltb f u function-in, lt-ltb n u argument-in)
+          (r ∙ rw used (same-zeros u z s l (uses (frames s) limit (begin w u f n))))

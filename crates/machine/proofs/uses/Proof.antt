@@ -1,0 +1,105 @@
+-- `machine::uses` meets its contract. The loop's invariant: the run goes on at the state that the words and numbers say now. Assumes nothing.
+use Prim.Native.Nat.{ℕ, _-_}
+use mathlib.Core.Path.{_≡_, refl, _∙_}
+use mathlib.Core.List.{List, [], _∷_}
+use mathlib.Core.Logic.{⊎-elim}
+use lib.ListN.{length}
+use types.Run
+use denote.Enum.Declared
+use Rattle.table.specs.Outcome.{frames}
+use Rattle.machine.specs.declared.End.{End}
+use Rattle.machine.specs.declared.End.the-variants as ended
+use Rattle.machine.specs.declared.Machine.{Machine}
+use Rattle.machine.specs.Machine.{State, Turn, more, turn, after}
+use Rattle.machine.specs.Code.{stateOf, endOf}
+use Rattle.machine.proofs.End as end-type
+use Rattle.machine.proofs.Steps.{Going, going-start, going-on, going-over, going-out}
+use borrow.Author.Needs.{needs}
+use native.Mathlib.Omega.{arith}
+use Rattle.machine.proofs.uses.Statement.{statement}
+use Rattle.machine.proofs.uses.Tie as tie
+
+-- a use that led to no further application ends the run
+over : (e : End) (m : Machine) (w s : List ℕ) → Run.OneOf (1 ∷ 2 ∷ 3 ∷ []) (Declared.tagOf end-type.the-type e) → (go : State → Turn)
+    → after go (endOf e m w s) ≡ endOf e m w s
+unfolding after
+over ended.More m w s h go = absurd (⊎-elim (λ q. omega arith) (⊎-elim (λ q. omega arith) (λ q. omega arith)) h)
+over ended.Done m w s h go = refl
+over ended.Nodes m w s h go = refl
+over ended.Frames m w s h go = refl
+
+abbrev Inv-loop : tie.InvT-loop
+Inv-loop table₀ stack₀ budget state₀ taken₀ table stack state taken =
+    (length table ≡ length table₀) × (length stack ≡ length stack₀)
+    × Going (frames stack₀) (stateOf state₀ table₀ stack₀) budget (stateOf state table stack) taken
+
+abbrev μ-loop : tie.MeasureT-loop
+μ-loop table₀ stack₀ budget state₀ taken₀ table stack state taken = budget - taken
+
+loop-holds : tie.Need-loop-holds Inv-loop μ-loop
+loop-holds c = (refl, refl, going-start (c .before .before .args .budget) (c .before .before .pre .0))
+
+turn-requires : tie.Need-turn-requires Inv-loop μ-loop
+turn-requires c κs =
+    let i = c .before .before .before .loop .inv in
+    (rw (i .1) (i .2 .good), omega (arith, i .2 .counted, c .before .before .before .before .before .before .pre .1))
+
+enum-told : tie.Need-enum-told Inv-loop μ-loop
+enum-told c = search needs
+
+same-length : tie.Need-same-length Inv-loop μ-loop
+same-length c = c .before .before .before .before .before .turn .kept .0 ∙ c .before .before .before .before .before .before .before .before .before .loop .inv .0
+
+same-length-2 : tie.Need-same-length-2 Inv-loop μ-loop
+same-length-2 c = c .before .before .before .before .before .turn .kept .1 .0 ∙ c .before .before .before .before .before .before .before .before .before .loop .inv .1
+
+returns : tie.Need-returns Inv-loop μ-loop
+returns c =
+    let t = c .before .before .before .before .before in
+    let i = t .before .before .before .before .loop .inv in
+    going-over (i .2) _ (omega arith) (rw (i .1) at (t .turn .ensures))
+    (over (t .turn .result .end) (t .turn .result .state) (t .turn .last .0) (t .turn .last .1 .0) (c .match .keys2))
+
+add-taken : tie.Need-add-taken Inv-loop μ-loop
+add-taken c = omega arith
+
+loop-less : tie.Need-loop-less Inv-loop μ-loop
+loop-less c = omega arith
+
+loop-again : tie.Need-loop-again Inv-loop μ-loop
+loop-again c =
+    let t = c .before .before .before .before .before .before .before in
+    let l = t .before .before .before .before .loop in
+    let i = l .inv in
+    let all = frames (t .before .before .before .before .before .before .before .args .stack .now) in
+    let z = stateOf (t .turn .result .state) (t .turn .last .0) (t .turn .last .1 .0) in
+    let e : more z ≡ turn all (stateOf (l .state) (l .table) (l .stack)) = rw (c .before .enum-told .given .1, i .1) at (t .turn .ensures) in
+    (t .turn .kept .0 ∙ i .0, t .turn .kept .1 .0 ∙ i .1, going-on (i .2) z (omega arith) e)
+
+same-length-3 : tie.Need-same-length-3 Inv-loop μ-loop
+same-length-3 c = c .before .loop .inv .0
+
+same-length-4 : tie.Need-same-length-4 Inv-loop μ-loop
+same-length-4 c = c .before .loop .inv .1
+
+returns-2 : tie.Need-returns-2 Inv-loop μ-loop
+returns-2 c = going-out (c .before .loop .inv .2) (omega arith)
+
+pub uses-spec : {M : Type 1} → statement M
+uses-spec =
+    tie.close
+    (tie.spec
+    Inv-loop
+    μ-loop
+    loop-holds
+    turn-requires
+    enum-told
+    same-length
+    same-length-2
+    returns
+    add-taken
+    loop-less
+    loop-again
+    same-length-3
+    same-length-4
+    returns-2)
