@@ -8,3 +8,4 @@ pub mod Refused
 pub mod Direct
 pub mod Empty
 pub mod Complete
+pub mod Ways

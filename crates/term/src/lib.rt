@@ -117,7 +117,7 @@ fn measure(bytes: &[u8], at: usize, depth: usize) -> Measured
 }
 
 // How many nodes the tree of the rule has; 0 where the bytes are no rule.
-fn rule_size(bytes: &[u8]) -> usize
+pub fn rule_size(bytes: &[u8]) -> usize
     ensures { λ r. ⌜ r ≡ sizeOf (rule (now (bytes .entry))) ⌝ }
 {
     let n = bytes.len();
