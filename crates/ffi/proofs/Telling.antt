@@ -9,7 +9,9 @@ use Rattle.table.specs.declared.Made.{Made}
 use Rattle.text.specs.Write as write
 use Rattle.text.specs.declared.Written.{Written}
 use Rattle.label.specs.Label as label
-use Rattle.ffi.specs.Boundary.{listed, told, Left, left, toldWritten, Labelled, labelled, toldLabel}
+use Rattle.run.specs.Run as run
+use Rattle.run.specs.declared.Ran.{Ran}
+use Rattle.ffi.specs.Boundary.{listed, told, Left, left, toldWritten, Labelled, labelled, toldLabel, toldRan}
 
 pub tells : {A : Type 0} (numbers : A → Numbers) {a : A} {l w s : List ℕ} {o : Outcome A}
     → l ≡ listed (numbers a) → whole a w s ≡ o → whole l w s ≡ told numbers o
@@ -22,3 +24,6 @@ tells-written used {w = w} {s = s} {b = b} p q = ap (λ (x : List ℕ). left x w
 pub tells-label : (used : ℕ) {a : Made} {l w : List ℕ} {o : label.Outcome}
     → l ≡ listed (madeNumbers used a) → label.whole a w ≡ o → labelled l w ≡ toldLabel used o
 tells-label used {w = w} p q = ap (λ (x : List ℕ). labelled x w) p ∙ ap (toldLabel used) q
+
+pub tells-ran : {a : Ran} {l w s b : List ℕ} {o : run.Whole} → l ≡ listed (run.ranNumbers a) → run.whole a w s b ≡ o → left l w s b ≡ toldRan o
+tells-ran {w = w} {s = s} {b = b} p q = ap (λ (x : List ℕ). left x w s b) p ∙ ap toldRan q

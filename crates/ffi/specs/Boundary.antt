@@ -5,6 +5,7 @@ use Rattle.table.specs.Refusal.{Numbers, madeNumbers}
 use Rattle.table.specs.Outcome.{Outcome, whole}
 use Rattle.text.specs.Write as write
 use Rattle.label.specs.Label as label
+use Rattle.run.specs.Run as run
 
 -- the five numbers of an answer, in the order in which they stand in the caller's array
 abbrev pub listed : Numbers → List ℕ
@@ -39,3 +40,7 @@ labelled a w = record { answer = a; table = w }
 -- Label's outcome, where `used` nodes were in use at entry
 abbrev pub toldLabel : ℕ → label.Outcome → Labelled
 toldLabel used o = labelled (listed (madeNumbers used (o .answer))) (o .table)
+
+-- Run's outcome
+abbrev pub toldRan : run.Whole → Left
+toldRan o = left (listed (run.ranNumbers (o .answer))) (o .table) (o .stack) (o .out)

@@ -9,8 +9,10 @@ ghost use Rattle.text.specs.Write as writing;
 ghost use Rattle.term.specs.Translate as translating;
 ghost use Rattle.machine.specs.Apply as applying;
 ghost use Rattle.label.specs.Label as labelling;
-ghost use Rattle.ffi.specs.Boundary.{listed, told, left, toldWritten, labelled, toldLabel};
+ghost use Rattle.run.specs.Run as running;
+ghost use Rattle.ffi.specs.Boundary.{listed, told, left, toldWritten, labelled, toldLabel, toldRan};
 use machine::Applied;
+use run::Ran;
 use table::Made;
 use table::Refusal;
 use text::Written;
@@ -72,6 +74,20 @@ fn applied(used: usize, answer: Applied) -> [usize; 5]
             steps,
         } => [0, node, grown, steps, 0],
         Applied::Refused(refusal) => refused(used, refusal),
+    }
+}
+
+// The numbers of Run's answer.
+fn ran(answer: Ran) -> [usize; 5]
+    ensures { λ r. ⌜ r ≡ listed (running.ranNumbers answer) ⌝ }
+{
+    match answer {
+        Ran::Text {
+            steps,
+            used,
+            digits,
+        } => [0, 0, used, steps, digits],
+        Ran::Refused(refusal) => refused(0, refusal),
     }
 }
 
@@ -156,4 +172,20 @@ pub extern "C" fn lazvorn_label(
 {
     let labelled = label::label(table, used, rule, label);
     *answer = made(used, labelled);
+}
+
+// Runs a packet with the table taken as empty.
+#[no_mangle]
+pub extern "C" fn lazvorn_run(
+    table: &mut [u32],
+    stack: &mut [u32],
+    out: &mut [u8],
+    packet: &[u8],
+    answer: &mut [usize; 5],
+)
+    ensures { λ _. ⌜ left (now (answer .exit)) (now (table .exit)) (now (stack .exit)) (now (out .exit))
+        ≡ toldRan (running.run (now (table .entry)) (now (stack .entry)) (now (out .entry)) (now (packet .entry))) ⌝ }
+{
+    let result = run::run(table, stack, out, packet);
+    *answer = ran(result);
 }
