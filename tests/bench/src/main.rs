@@ -185,6 +185,12 @@ fn text(random: &mut Random, digits: usize) -> Vec<u8> {
     [vec![b'1'; digits - tree.len()], tree].concat()
 }
 
+/// A tree's text of exactly so many digits, an even number, that repeats itself: a processor foresees
+/// each digit.
+fn regular(digits: usize) -> Vec<u8> {
+    [b"20".repeat(digits / 2 - 1), b"10".to_vec()].concat()
+}
+
 fn reading(text: &[u8]) -> Vec<Times> {
     let (mut table, mut stack) = (vec![0; 131_072], vec![0; 65_535]);
     let (mut other_table, mut other_stack) = (table.clone(), stack.clone());
@@ -261,9 +267,14 @@ fn translating(rule: &[u8]) -> (usize, Vec<Times>) {
 fn texts_and_rules() {
     head("Read, Write and Translate");
     let mut random = Random::new(1);
-    let text = text(&mut random, 60_000);
-    rows("Read, 60,000 digits", &reading(&text));
-    rows("Write, 60,000 digits", &writing(&text));
+    let texts = [
+        ("random tree", text(&mut random, 60_000)),
+        ("regular tree", regular(60_000)),
+    ];
+    for (what, text) in &texts {
+        rows(&format!("Read, 60,000 digits, {what}"), &reading(text));
+        rows(&format!("Write, 60,000 digits, {what}"), &writing(text));
+    }
     for (what, rule) in [
         ("wide rule", wide_rule(1_365)),
         ("nested rule", deep_rule(5)),
