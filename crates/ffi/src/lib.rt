@@ -1,0 +1,191 @@
+// The operations for C and Rust, each under a plain name and on plain numbers and slices; include/lazvorn.h declares them. A slice is two C
+// arguments, a pointer and a length. An answer is five numbers in an array that the caller lends: refusal, node, used, steps and digits.
+// The definitions are in specs/.
+ghost use mathlib.Core.Path.{_≡_};
+ghost use Rattle.table.specs.Refusal.{number, refusedNumbers, madeNumbers};
+ghost use Rattle.table.specs.Outcome.{whole};
+ghost use Rattle.text.specs.Read as reading;
+ghost use Rattle.text.specs.Write as writing;
+ghost use Rattle.term.specs.Translate as translating;
+ghost use Rattle.machine.specs.Apply as applying;
+ghost use Rattle.label.specs.Label as labelling;
+ghost use Rattle.run.specs.Run as running;
+ghost use Rattle.ffi.specs.Boundary.{listed, told, left, toldWritten, labelled, toldLabel, toldRan};
+use machine::Applied;
+use run::Ran;
+use table::Made;
+use table::Refusal;
+use text::Written;
+
+// A refusal's number.
+fn number(refusal: Refusal) -> usize
+    ensures { λ r. ⌜ r ≡ number refusal ⌝ }
+{
+    match refusal {
+        Refusal::Limits => 1,
+        Refusal::Broken => 2,
+        Refusal::Node => 3,
+        Refusal::Text => 4,
+        Refusal::Rule => 5,
+        Refusal::Packet => 6,
+        Refusal::Steps => 7,
+        Refusal::Nodes => 8,
+        Refusal::Frames => 9,
+        Refusal::Out => 10,
+    }
+}
+
+// The numbers of a refusal, with `used` as at entry.
+fn refused(used: usize, refusal: Refusal) -> [usize; 5]
+    ensures { λ r. ⌜ r ≡ listed (refusedNumbers used refusal) ⌝ }
+{
+    let n = number(refusal);
+    [n, 0, used, 0, 0]
+}
+
+// The numbers of the answer of Read, Translate and Label.
+fn made(used: usize, answer: Made) -> [usize; 5]
+    ensures { λ r. ⌜ r ≡ listed (madeNumbers used answer) ⌝ }
+{
+    match answer {
+        Made::Node { node, used: grown } => [0, node, grown, 0, 0],
+        Made::Refused(refusal) => refused(used, refusal),
+    }
+}
+
+// The numbers of Write's answer.
+fn written(used: usize, answer: Written) -> [usize; 5]
+    ensures { λ r. ⌜ r ≡ listed (writing.writtenNumbers used answer) ⌝ }
+{
+    match answer {
+        Written::Digits(digits) => [0, 0, used, 0, digits],
+        Written::Refused(refusal) => refused(used, refusal),
+    }
+}
+
+// The numbers of Apply's answer.
+fn applied(used: usize, answer: Applied) -> [usize; 5]
+    ensures { λ r. ⌜ r ≡ listed (applying.appliedNumbers used answer) ⌝ }
+{
+    match answer {
+        Applied::Node {
+            node,
+            used: grown,
+            steps,
+        } => [0, node, grown, steps, 0],
+        Applied::Refused(refusal) => refused(used, refusal),
+    }
+}
+
+// The numbers of Run's answer.
+fn ran(answer: Ran) -> [usize; 5]
+    ensures { λ r. ⌜ r ≡ listed (running.ranNumbers answer) ⌝ }
+{
+    match answer {
+        Ran::Text {
+            steps,
+            used,
+            digits,
+        } => [0, 0, used, steps, digits],
+        Ran::Refused(refusal) => refused(0, refusal),
+    }
+}
+
+// Reads a text into the table.
+#[no_mangle]
+pub extern "C" fn lazvorn_read(
+    table: &mut [u32],
+    used: usize,
+    stack: &mut [u32],
+    text: &[u8],
+    answer: &mut [usize; 5],
+)
+    ensures { λ _. ⌜ whole (now (answer .exit)) (now (table .exit)) (now (stack .exit))
+        ≡ told (madeNumbers used) (reading.read (now (table .entry)) used (now (stack .entry)) (now (text .entry))) ⌝ }
+{
+    let read = text::read(table, used, stack, text);
+    *answer = made(used, read);
+}
+
+// Writes a node's tree as text.
+#[no_mangle]
+pub extern "C" fn lazvorn_write(
+    table: &[u32],
+    used: usize,
+    stack: &mut [u32],
+    node: usize,
+    out: &mut [u8],
+    answer: &mut [usize; 5],
+)
+    ensures { λ _. ⌜ left (now (answer .exit)) (now (table .entry)) (now (stack .exit)) (now (out .exit))
+        ≡ toldWritten used (writing.write (now (table .entry)) used (now (stack .entry)) node (now (out .entry))) ⌝ }
+{
+    let wrote = text::write(table, used, stack, node, out);
+    *answer = written(used, wrote);
+}
+
+// Translates a rule into the table.
+#[no_mangle]
+pub extern "C" fn lazvorn_translate(
+    table: &mut [u32],
+    used: usize,
+    stack: &mut [u32],
+    bytes: &[u8],
+    answer: &mut [usize; 5],
+)
+    ensures { λ _. ⌜ whole (now (answer .exit)) (now (table .exit)) (now (stack .exit))
+        ≡ told (madeNumbers used) (translating.translate (now (table .entry)) used (now (stack .entry)) (now (bytes .entry))) ⌝ }
+{
+    let translated = term::translate(table, used, stack, bytes);
+    *answer = made(used, translated);
+}
+
+// Applies one node to another in at most `limit` steps.
+#[no_mangle]
+pub extern "C" fn lazvorn_apply(
+    table: &mut [u32],
+    used: usize,
+    stack: &mut [u32],
+    function: usize,
+    argument: usize,
+    limit: usize,
+    answer: &mut [usize; 5],
+)
+    ensures { λ _. ⌜ whole (now (answer .exit)) (now (table .exit)) (now (stack .exit))
+        ≡ told (applying.appliedNumbers used) (applying.apply (now (table .entry)) used (now (stack .entry)) function argument limit) ⌝ }
+{
+    let outcome = machine::apply(table, used, stack, function, argument, limit);
+    *answer = applied(used, outcome);
+}
+
+// Labels the rule at one node with the tree of another.
+#[no_mangle]
+pub extern "C" fn lazvorn_label(
+    table: &mut [u32],
+    used: usize,
+    rule: usize,
+    label: usize,
+    answer: &mut [usize; 5],
+)
+    ensures { λ _. ⌜ labelled (now (answer .exit)) (now (table .exit))
+        ≡ toldLabel used (labelling.label (now (table .entry)) used rule label) ⌝ }
+{
+    let labelled = label::label(table, used, rule, label);
+    *answer = made(used, labelled);
+}
+
+// Runs a packet with the table taken as empty.
+#[no_mangle]
+pub extern "C" fn lazvorn_run(
+    table: &mut [u32],
+    stack: &mut [u32],
+    out: &mut [u8],
+    packet: &[u8],
+    answer: &mut [usize; 5],
+)
+    ensures { λ _. ⌜ left (now (answer .exit)) (now (table .exit)) (now (stack .exit)) (now (out .exit))
+        ≡ toldRan (running.run (now (table .entry)) (now (stack .entry)) (now (out .entry)) (now (packet .entry))) ⌝ }
+{
+    let result = run::run(table, stack, out, packet);
+    *answer = ran(result);
+}

@@ -1,0 +1,123 @@
+/*
+ * The operations of the branch-first tree engine for C.
+ *
+ * A caller lends all memory: a table of 32-bit words, two a node; a stack of 32-bit words, three a
+ * frame; out bytes. The library keeps nothing between calls and allocates nothing. A length that
+ * follows a pointer counts elements: words for the table and the stack, bytes elsewhere. Where a
+ * length is 0 the pointer may be any that is not NULL.
+ *
+ * What a caller owes is what C itself asks: a pointer reaches as many elements as its length says,
+ * and what the call writes (the table but for lazvorn_write, the stack, out, answer) overlaps
+ * nothing else that is lent to it. There is no other condition: counts, node numbers and contents
+ * that do not fit are refused by number.
+ *
+ * Each call writes five numbers to answer, in this order: refusal, node, used, steps, digits. A
+ * refusal gives its number, used as at entry (0 for lazvorn_run), and 0 for the others. Refusals 1
+ * to 6 leave all lent memory as found. Refusals 7 to 10 set the stack and the words of the nodes
+ * made in the call to 0 and leave out as found. Success sets the stack to 0.
+ */
+#ifndef LAZVORN_H
+#define LAZVORN_H
+
+#include <stddef.h>
+#include <stdint.h>
+
+#ifdef __cplusplus
+extern "C" {
+#endif
+
+/* Places in answer. */
+enum {
+    LAZVORN_REFUSAL = 0, /* 0 for success, else one of the numbers below */
+    LAZVORN_NODE = 1,    /* the node that was made or found */
+    LAZVORN_USED = 2,    /* the count of used nodes after the call */
+    LAZVORN_STEPS = 3,   /* the uses of the five rules */
+    LAZVORN_DIGITS = 4   /* the digits written to out */
+};
+
+/* Refusals. */
+enum {
+    LAZVORN_LIMITS = 1, /* table, stack or out too long, used above the capacity, limit too large */
+    LAZVORN_BROKEN = 2, /* a used node is broken */
+    LAZVORN_BAD_NODE = 3, /* a node number is not below used */
+    LAZVORN_TEXT = 4,   /* a text is not one whole tree, or too long */
+    LAZVORN_RULE = 5,   /* bytes are not a rule */
+    LAZVORN_PACKET = 6, /* a packet is broken */
+    LAZVORN_NO_STEPS = 7,  /* the step limit is reached */
+    LAZVORN_NO_NODES = 8,  /* a new node has no place */
+    LAZVORN_NO_FRAMES = 9, /* every frame is held */
+    LAZVORN_NO_OUT = 10    /* the out bytes are full */
+};
+
+/* Reads a text into the table. Gives node and used. Refusals 1, 2, 4, 8, 9. */
+void lazvorn_read(
+    uint32_t *table,     /* the table's words, at most 131,072 of them */
+    size_t table_len,    /* how many words */
+    size_t used,         /* nodes in use: the words from 2 * used on are free */
+    uint32_t *stack,     /* the stack's words, at most 65,536 of them */
+    size_t stack_len,    /* how many words */
+    const uint8_t *text, /* digits '0', '1', '2', parent before branches, at most 65,535 of them */
+    size_t text_len,     /* how many bytes */
+    size_t answer[5]);   /* the five numbers */
+
+/* Writes a node's tree as text. Gives used as at entry and digits. Refusals 1, 2, 3, 9, 10. */
+void lazvorn_write(
+    const uint32_t *table, /* the table's words; they are read only */
+    size_t table_len,      /* how many words */
+    size_t used,           /* nodes in use */
+    uint32_t *stack,       /* the stack's words */
+    size_t stack_len,      /* how many words */
+    size_t node,           /* the node whose tree is written */
+    uint8_t *out,          /* the out bytes, at most 65,535; those past the text stay */
+    size_t out_len,        /* how many bytes */
+    size_t answer[5]);     /* the five numbers */
+
+/* Translates a rule into the table. Gives node and used. Refusals 1, 2, 5, 8, 9. */
+void lazvorn_translate(
+    uint32_t *table,      /* the table's words */
+    size_t table_len,     /* how many words */
+    size_t used,          /* nodes in use */
+    uint32_t *stack,      /* the stack's words: two frames for each node of the rule's tree */
+    size_t stack_len,     /* how many words */
+    const uint8_t *bytes, /* the rule's bytes, at most 4,096 of them */
+    size_t bytes_len,     /* how many bytes */
+    size_t answer[5]);    /* the five numbers */
+
+/* Applies one node to another. Gives node, used and steps. Refusals 1, 2, 3, 7, 8, 9. */
+void lazvorn_apply(
+    uint32_t *table,   /* the table's words */
+    size_t table_len,  /* how many words */
+    size_t used,       /* nodes in use */
+    uint32_t *stack,   /* the stack's words */
+    size_t stack_len,  /* how many words */
+    size_t function,   /* the node applied */
+    size_t argument,   /* the node it is applied to */
+    size_t limit,      /* the step limit, at most 1,000,000 */
+    size_t answer[5]); /* the five numbers */
+
+/* Labels a rule with a tree: seven new nodes. Gives node and used. Refusals 1, 2, 3, 8. */
+void lazvorn_label(
+    uint32_t *table,   /* the table's words */
+    size_t table_len,  /* how many words */
+    size_t used,       /* nodes in use */
+    size_t rule,       /* the rule's node */
+    size_t label,      /* the label's node */
+    size_t answer[5]); /* the five numbers */
+
+/* Runs a packet with the table taken as empty. Gives used, steps and digits. Refusals 1, 4 to 10. */
+void lazvorn_run(
+    uint32_t *table,       /* the table's words */
+    size_t table_len,      /* how many words */
+    uint32_t *stack,       /* the stack's words */
+    size_t stack_len,      /* how many words */
+    uint8_t *out,          /* the out bytes for the outcome's text */
+    size_t out_len,        /* how many bytes */
+    const uint8_t *packet, /* the packet, at most 16,384 bytes */
+    size_t packet_len,     /* how many bytes */
+    size_t answer[5]);     /* the five numbers */
+
+#ifdef __cplusplus
+}
+#endif
+
+#endif

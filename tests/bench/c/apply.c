@@ -1,0 +1,91 @@
+/*
+ * Apply's machine as a C programmer would write it who trusts the table: words, frames in an array,
+ * the limits on steps, nodes and frames, and what a call leaves in memory. It checks neither the
+ * table nor the node numbers.
+ */
+#include <stddef.h>
+#include <stdint.h>
+#include <string.h>
+
+void APPLY(uint32_t *table, size_t table_len, size_t used, uint32_t *stack, size_t stack_len,
+           size_t function, size_t argument, size_t limit, size_t answer[5]);
+
+void APPLY(uint32_t *table, size_t table_len, size_t used, uint32_t *stack, size_t stack_len,
+           size_t function, size_t argument, size_t limit, size_t answer[5]) {
+    const size_t nodes = table_len / 2, frames = stack_len / 3;
+    size_t made = used, held = 0, steps = 0, refusal = 0;
+    uint32_t f = (uint32_t)function, n = (uint32_t)argument, v = 0;
+    for (;;) {
+        if (steps == limit) {
+            refusal = 7;
+            break;
+        }
+        const uint32_t a = table[2 * f], b = table[2 * f + 1];
+        if (a == 0 || b == 0) {
+            /* leaf: the stem of n; stem: the fork of p and n */
+            if (made == nodes) {
+                refusal = 8;
+                break;
+            }
+            table[2 * made] = a == 0 ? n + 1 : a;
+            table[2 * made + 1] = a == 0 ? 0 : n + 1;
+            v = (uint32_t)made++;
+        } else {
+            const uint32_t p = table[2 * (a - 1)], q = table[2 * (a - 1) + 1];
+            if (p == 0) {
+                v = b - 1; /* drop */
+            } else {
+                if (held == frames) {
+                    refusal = 9;
+                    break;
+                }
+                uint32_t *s = stack + 3 * held++;
+                steps++;
+                if (q == 0) { /* spread: y to n first */
+                    s[0] = 0;
+                    s[1] = p - 1;
+                    s[2] = n;
+                    f = b - 1;
+                } else { /* triage: n to p first */
+                    s[0] = 2;
+                    s[1] = q - 1;
+                    f = n;
+                    n = p - 1;
+                }
+                continue;
+            }
+        }
+        steps++;
+        if (held == 0)
+            break;
+        uint32_t *s = stack + 3 * (held - 1);
+        if (s[0] == 0) { /* then p to n */
+            f = s[1];
+            n = s[2];
+            s[0] = 1;
+            s[1] = v;
+        } else if (s[0] == 1) { /* then v to w */
+            held--;
+            f = s[1];
+            n = v;
+        } else { /* then v to q */
+            held--;
+            f = v;
+            n = s[1];
+        }
+    }
+    memset(stack, 0, stack_len * sizeof *stack);
+    if (refusal != 0) {
+        memset(table + 2 * used, 0, 2 * (made - used) * sizeof *table);
+        answer[0] = refusal;
+        answer[1] = 0;
+        answer[2] = used;
+        answer[3] = 0;
+    } else {
+        answer[0] = 0;
+        answer[1] = v;
+        answer[2] = made;
+        answer[3] = steps;
+    }
+    answer[4] = 0;
+}

@@ -1,0 +1,439 @@
+//! Measures the engine beside a C loop, plain Rust and the second evaluator, and how its time grows.
+//! Prints tables in Markdown, and writes the plot to the path it is given.
+//!
+//! `bench [PLOT.svg]`
+
+mod measure;
+mod plain;
+mod plot;
+mod workloads;
+
+use compare::packets::{self, Case};
+use compare::random::Random;
+use compare::trees;
+use measure::{contender, rounds, Contender, Times};
+use std::cell::RefCell;
+use std::hint::black_box;
+use workloads::{answer_of, Workload};
+
+const ROUNDS: usize = 41;
+
+mod c {
+    type Apply = unsafe extern "C" fn(
+        *mut u32,
+        usize,
+        usize,
+        *mut u32,
+        usize,
+        usize,
+        usize,
+        usize,
+        *mut [usize; 5],
+    );
+
+    macro_rules! declare {
+        ($name:ident) => {
+            extern "C" {
+                fn $name(
+                    table: *mut u32,
+                    table_len: usize,
+                    used: usize,
+                    stack: *mut u32,
+                    stack_len: usize,
+                    function: usize,
+                    argument: usize,
+                    limit: usize,
+                    answer: *mut [usize; 5],
+                );
+            }
+        };
+    }
+
+    #[cfg(gcc)]
+    declare!(apply_gcc);
+    #[cfg(clang)]
+    declare!(apply_clang);
+
+    declare!(lazvorn_apply);
+
+    /// The engine, called as C calls it, and the C loop as each compiler made it that was there.
+    pub fn applies() -> Vec<(&'static str, Apply)> {
+        vec![
+            ("engine", lazvorn_apply as Apply),
+            #[cfg(gcc)]
+            ("C, gcc -O3", apply_gcc as Apply),
+            #[cfg(clang)]
+            ("C, clang -O3", apply_clang as Apply),
+        ]
+    }
+}
+
+/// Prints a row for each contender after the engine: the engine's speed beside it.
+fn rows(what: &str, times: &[Times]) {
+    let engine = &times[0];
+    for other in &times[1..] {
+        let [low, middle, high] = other.speed_of(engine);
+        println!(
+            "| {what} | {} | {:.3} | {:.3} | {middle:.2} | {low:.2} to {high:.2} |",
+            other.name,
+            1e6 * engine.median(),
+            1e6 * other.median()
+        );
+    }
+}
+
+fn head(title: &str) {
+    println!("\n### {title}\n");
+    println!("| Work | Beside | Engine, µs | Other, µs | Engine's speed beside it | Quartiles |");
+    println!("|---|---|---|---|---|---|");
+}
+
+fn apply() {
+    head("Apply");
+    for workload in workloads::all() {
+        let what = format!("{} ({} steps)", workload.name, steps(&workload));
+        rows(&what, &applied(workload));
+    }
+}
+
+fn steps(workload: &Workload) -> usize {
+    // A refusal tells no steps: the model counts them where a limit is not what stopped it.
+    match workload.answer[0] {
+        0 => workload.answer[3],
+        7 => workload.limit,
+        _ => {
+            let mut low = 0;
+            let mut high = workload.limit;
+            while low < high {
+                let middle = (low + high) / 2;
+                let mut table = workload.table.clone();
+                let mut stack = workload.stack.clone();
+                let numbers = lazvorn::apply(
+                    &mut table,
+                    workload.used,
+                    &mut stack,
+                    workload.function,
+                    workload.argument,
+                    middle,
+                );
+                if numbers.refusal == 7 {
+                    low = middle + 1;
+                } else {
+                    high = middle;
+                }
+            }
+            low - 1
+        }
+    }
+}
+
+fn applied(workload: Workload) -> Vec<Times> {
+    let expected = workload.answer;
+    let packet = workload.parts.packet();
+    let room = second::Room {
+        nodes: workload.table.len() / 2,
+        frames: workload.stack.len() / 3,
+        out: 65_535,
+        default_limit: 10_000,
+    };
+    let cell = RefCell::new(workload);
+    let mut contenders: Vec<Contender> = Vec::new();
+    for (name, apply) in c::applies() {
+        let cell = &cell;
+        contenders.push(contender(name, move || {
+            let w = &mut *cell.borrow_mut();
+            let mut answer = [0; 5];
+            // The pointers and lengths are those of slices that nothing else borrows. The C loop trusts
+            // the table and the numbers, which the engine has checked.
+            unsafe {
+                apply(
+                    w.table.as_mut_ptr(),
+                    w.table.len(),
+                    w.used,
+                    w.stack.as_mut_ptr(),
+                    w.stack.len(),
+                    w.function,
+                    w.argument,
+                    w.limit,
+                    &mut answer,
+                )
+            };
+            assert_eq!(answer, expected);
+        }));
+    }
+    contenders.push(contender("safe Rust, same checks", || {
+        let w = &mut *cell.borrow_mut();
+        let answer = plain::apply(
+            &mut w.table,
+            w.used,
+            &mut w.stack,
+            w.function,
+            w.argument,
+            w.limit,
+        );
+        assert_eq!(answer, expected);
+    }));
+    contenders.push(contender("second evaluator, its whole run", || {
+        black_box(second::run(&packet, room).is_ok());
+    }));
+    rounds(contenders, ROUNDS)
+}
+
+/// A tree's text of exactly so many digits.
+fn text(random: &mut Random, digits: usize) -> Vec<u8> {
+    let tree = trees::tree(random, digits);
+    [vec![b'1'; digits - tree.len()], tree].concat()
+}
+
+/// A tree's text of exactly so many digits, an even number, that repeats itself: a processor foresees
+/// each digit.
+fn regular(digits: usize) -> Vec<u8> {
+    [b"20".repeat(digits / 2 - 1), b"10".to_vec()].concat()
+}
+
+fn reading(text: &[u8]) -> Vec<Times> {
+    let (mut table, mut stack) = (vec![0; 131_072], vec![0; 65_535]);
+    let (mut other_table, mut other_stack) = (table.clone(), stack.clone());
+    rounds(
+        vec![
+            contender("engine", || {
+                let read = lazvorn::read(&mut table, 0, &mut stack, text);
+                assert_eq!(read.used, text.len());
+            }),
+            contender("plain Rust, same checks", || {
+                let read = plain::read(&mut other_table, 0, &mut other_stack, text);
+                assert_eq!(read[2], text.len());
+            }),
+        ],
+        ROUNDS,
+    )
+}
+
+fn writing(text: &[u8]) -> Vec<Times> {
+    let (mut table, mut stack) = (vec![0; 131_072], vec![0; 65_535]);
+    let read = lazvorn::read(&mut table, 0, &mut stack, text);
+    let (table, mut out) = (table, vec![0; 65_535]);
+    let (mut other_stack, mut other_out) = (stack.clone(), out.clone());
+    rounds(
+        vec![
+            contender("engine", || {
+                let written = lazvorn::write(&table, read.used, &mut stack, read.node, &mut out);
+                assert_eq!(written.digits, text.len());
+            }),
+            contender("plain Rust, same checks", || {
+                let (node, used) = (read.node, read.used);
+                let written = plain::write(&table, used, &mut other_stack, node, &mut other_out);
+                assert_eq!(written[4], text.len());
+            }),
+        ],
+        ROUNDS,
+    )
+}
+
+/// The rule λx. x x .. x with so many variables.
+fn wide_rule(variables: usize) -> Vec<u8> {
+    let mut rule = vec![2];
+    rule.extend(vec![1; variables - 1]);
+    rule.extend([3, 0].repeat(variables));
+    rule
+}
+
+/// The rule of so many nested abstractions over the leaf.
+fn deep_rule(nested: usize) -> Vec<u8> {
+    [vec![2; nested], vec![0]].concat()
+}
+
+fn translating(rule: &[u8]) -> (usize, Vec<Times>) {
+    let (mut table, mut stack) = (vec![0; 131_072], vec![0; 65_535]);
+    let (mut other_table, mut other_stack) = (table.clone(), stack.clone());
+    let made = lazvorn::translate(&mut table, 0, &mut stack, rule);
+    assert_eq!(made.refusal, 0);
+    let times = rounds(
+        vec![
+            contender("engine", || {
+                let translated = lazvorn::translate(&mut table, 0, &mut stack, rule);
+                assert_eq!(translated, made);
+            }),
+            contender("plain Rust, same checks", || {
+                let translated = plain::translate(&mut other_table, 0, &mut other_stack, rule);
+                assert_eq!(translated, answer_of(made));
+            }),
+        ],
+        ROUNDS,
+    );
+    (made.used, times)
+}
+
+fn texts_and_rules() {
+    head("Read, Write and Translate");
+    let mut random = Random::new(1);
+    let texts = [
+        ("random tree", text(&mut random, 60_000)),
+        ("regular tree", regular(60_000)),
+    ];
+    for (what, text) in &texts {
+        rows(&format!("Read, 60,000 digits, {what}"), &reading(text));
+        rows(&format!("Write, 60,000 digits, {what}"), &writing(text));
+    }
+    for (what, rule) in [
+        ("wide rule", wide_rule(1_365)),
+        ("nested rule", deep_rule(5)),
+        ("the paper's rule", vec![2, 1, 3, 0, 3, 0]),
+    ] {
+        let (nodes, times) = translating(&rule);
+        let what = format!("Translate, {what}, {} bytes to {nodes} nodes", rule.len());
+        rows(&what, &times);
+    }
+}
+
+fn running(what: &str, cases: &[Case]) {
+    let room = packets::PROGRAM;
+    let (mut table, mut stack, mut out) =
+        (vec![0; room.table], vec![0; room.stack], vec![0; room.out]);
+    let times = rounds(
+        vec![
+            contender("engine", || {
+                for case in cases {
+                    let ran = lazvorn::run(&mut table, &mut stack, &mut out, &case.packet);
+                    black_box(ran);
+                }
+            }),
+            contender("second evaluator", || {
+                for case in cases {
+                    black_box(second::run(&case.packet, second::PROGRAM).is_ok());
+                }
+            }),
+        ],
+        ROUNDS / 4,
+    );
+    rows(what, &times);
+}
+
+fn packets() {
+    head("Run");
+    let mut random = Random::new(20_261_115);
+    let cases: Vec<Case> = (0..2_000).map(|_| packets::case(&mut random)).collect();
+    running("2,000 packets as they are compared", &cases);
+    let runs = |case: &&Case| second::run(&case.packet, second::PROGRAM).is_ok();
+    let cases: Vec<Case> = cases.iter().filter(runs).cloned().collect();
+    running(&format!("the {} of them that succeed", cases.len()), &cases);
+}
+
+// ---- growth
+
+/// The engine's median time for one call.
+fn alone<'a>(run: impl FnMut() + 'a) -> f64 {
+    rounds(vec![contender("engine", run)], ROUNDS)[0].median()
+}
+
+fn growth() -> Vec<plot::Line> {
+    let mut random = Random::new(2);
+    let texts: Vec<Vec<u8>> = [500, 1_000, 2_000, 4_000, 8_000, 16_000, 32_000, 64_000]
+        .map(|digits| text(&mut random, digits))
+        .into();
+    let sized = |text: &Vec<u8>, times: Vec<Times>| (text.len() as f64, times[0].median());
+    let read = texts.iter().map(|text| sized(text, reading(text)));
+    let read = read.collect();
+    let write = texts.iter().map(|text| sized(text, writing(text)));
+    let write = write.collect();
+    let translate = [25, 50, 100, 200, 400, 800, 1_365].map(|variables| {
+        let (nodes, times) = translating(&wide_rule(variables));
+        (nodes as f64, times[0].median())
+    });
+    let apply = [1_000, 2_000, 4_000, 8_000, 16_000, 32_000, 64_000, 128_000].map(|limit| {
+        let mut workload = workloads::endless(limit);
+        let seconds = alone(|| {
+            black_box(workload.apply());
+        });
+        (limit as f64, seconds)
+    });
+    let run = [500, 1_000, 2_000, 4_000, 8_000, 16_000].map(|digits| {
+        let parts = packets::Parts {
+            rule: vec![2, 3, 0],
+            arguments: vec![text(&mut random, digits)],
+            limit: None,
+        };
+        let packet = parts.packet();
+        let (mut table, mut stack, mut out) = (vec![0; 131_072], vec![0; 65_535], vec![0; 65_535]);
+        let seconds = alone(|| {
+            let ran = lazvorn::run(&mut table, &mut stack, &mut out, &packet);
+            assert_eq!(ran.refusal, 0);
+        });
+        (packet.len() as f64, seconds)
+    });
+    let line = |name, points: Vec<(f64, f64)>| plot::Line { name, points };
+    vec![
+        line("Read (digits)", read),
+        line("Write (digits)", write),
+        line("Translate (nodes)", translate.into()),
+        line("Apply (steps)", apply.into()),
+        line("Run (packet bytes)", run.into()),
+    ]
+}
+
+/// The slope of a line through the points, by least squares: what one more unit of size costs.
+fn slope(points: &[(f64, f64)]) -> f64 {
+    let n = points.len() as f64;
+    let mean = |of: fn(&(f64, f64)) -> f64| points.iter().map(of).sum::<f64>() / n;
+    let (x, y) = (mean(|p| p.0), mean(|p| p.1));
+    let above: f64 = points.iter().map(|p| (p.0 - x) * (p.1 - y)).sum();
+    let below: f64 = points.iter().map(|p| (p.0 - x) * (p.0 - x)).sum();
+    above / below
+}
+
+fn print_growth(lines: &[plot::Line]) {
+    println!("\n### How time grows with size\n");
+    println!("The whole lent stack is cleared by every call, which a size of 0 pays as well. The second column takes that away: it is what doubling the size adds, for each unit added.\n");
+    println!("| Operation | Size: µs for a call, ns for each unit added since the row before |");
+    println!("|---|---|");
+    for line in lines {
+        let mut cells = Vec::new();
+        let mut last: Option<(f64, f64)> = None;
+        for &(size, seconds) in &line.points {
+            let added = last.map_or(String::new(), |(s, t)| {
+                format!(", {:.2}", 1e9 * (seconds - t) / (size - s))
+            });
+            cells.push(format!("{size}: {:.1}{added}", 1e6 * seconds));
+            last = Some((size, seconds));
+        }
+        println!("| {} | {} |", line.name, cells.join(" · "));
+    }
+    println!("\n| Operation | ns a unit, lower half of the sizes | upper half |");
+    println!("|---|---|---|");
+    for line in lines {
+        let middle = line.points.len() / 2;
+        println!(
+            "| {} | {:.2} | {:.2} |",
+            line.name,
+            1e9 * slope(&line.points[..=middle]),
+            1e9 * slope(&line.points[middle..])
+        );
+    }
+}
+
+fn bench() {
+    let path = std::env::args().nth(1);
+    apply();
+    texts_and_rules();
+    packets();
+    let lines = growth();
+    print_growth(&lines);
+    if let Some(path) = path {
+        let svg = plot::svg(
+            "Time of one call by the size of its input",
+            "digits, nodes, steps or bytes",
+            &lines,
+        );
+        std::fs::write(&path, svg).expect("the plot is written");
+    }
+}
+
+fn main() {
+    // The second evaluator recurses as deep as trees and frames go.
+    let thread = std::thread::Builder::new().stack_size(1 << 30);
+    thread
+        .spawn(bench)
+        .expect("a thread")
+        .join()
+        .expect("the benchmark ends");
+}

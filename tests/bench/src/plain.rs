@@ -1,0 +1,370 @@
+//! The operations in plain safe Rust, over the same words, with the same checks and the same effects
+//! on memory: what a user would write instead of linking the engine. No call is inlined into the
+//! benchmark, as no call of the engine is.
+
+pub type Answer = [usize; 5];
+
+fn refused(number: usize, used: usize) -> Answer {
+    [number, 0, used, 0, 0]
+}
+
+/// Refusals 1 and 2.
+fn check(table: &[u32], used: usize, stack: &[u32]) -> Result<(), usize> {
+    if table.len() > 131_072 || stack.len() > 65_536 || used > table.len() / 2 {
+        return Err(1);
+    }
+    for (i, node) in table.chunks_exact(2).take(used).enumerate() {
+        let (a, b) = (node[0] as usize, node[1] as usize);
+        if (a == 0 && b != 0) || a > i || b > i {
+            return Err(2);
+        }
+    }
+    Ok(())
+}
+
+/// The most trees pending in a text that is one whole tree.
+fn most_pending(text: &[u8]) -> Option<usize> {
+    if text.len() > 65_535 {
+        return None;
+    }
+    let (mut pending, mut most) = (0usize, 0);
+    for digit in text.iter().rev() {
+        pending = match digit {
+            b'0' => pending + 1,
+            b'1' if pending > 0 => pending,
+            b'2' if pending > 1 => pending - 1,
+            _ => return None,
+        };
+        most = most.max(pending);
+    }
+    (pending == 1).then_some(most)
+}
+
+#[inline(never)]
+pub fn read(table: &mut [u32], used: usize, stack: &mut [u32], text: &[u8]) -> Answer {
+    if let Err(number) = check(table, used, stack) {
+        return refused(number, used);
+    }
+    let Some(most) = most_pending(text) else {
+        return refused(4, used);
+    };
+    let number = if table.len() / 2 - used < text.len() {
+        8
+    } else if stack.len() / 3 < most {
+        9
+    } else {
+        0
+    };
+    if number != 0 {
+        stack.fill(0);
+        return refused(number, used);
+    }
+    let (mut made, mut held) = (used, 0);
+    for digit in text.iter().rev() {
+        let (mut first, mut second) = (0, 0);
+        if *digit != b'0' {
+            held -= 1;
+            first = stack[3 * held] + 1;
+        }
+        if *digit == b'2' {
+            held -= 1;
+            second = stack[3 * held] + 1;
+        }
+        table[2 * made] = first;
+        table[2 * made + 1] = second;
+        stack[3 * held] = made as u32;
+        held += 1;
+        made += 1;
+    }
+    stack.fill(0);
+    [0, made - 1, made, 0, 0]
+}
+
+/// Goes through a tree's digits and hands each to `put`; how many there are, or what was lacking.
+fn digits(
+    table: &[u32],
+    stack: &mut [u32],
+    node: usize,
+    room: usize,
+    mut put: impl FnMut(usize, u8),
+) -> Result<usize, usize> {
+    let frames = stack.len() / 3;
+    let (mut at, mut held, mut done) = (node, 0, 0);
+    loop {
+        if done == room {
+            return Err(10);
+        }
+        let (a, b) = (table[2 * at], table[2 * at + 1]);
+        if a == 0 {
+            put(done, b'0');
+            done += 1;
+            if held == 0 {
+                return Ok(done);
+            }
+            held -= 1;
+            at = stack[3 * held] as usize;
+            continue;
+        }
+        if b == 0 {
+            put(done, b'1');
+        } else {
+            if held == frames {
+                return Err(9);
+            }
+            put(done, b'2');
+            stack[3 * held] = b - 1;
+            held += 1;
+        }
+        done += 1;
+        at = a as usize - 1;
+    }
+}
+
+#[inline(never)]
+pub fn write(table: &[u32], used: usize, stack: &mut [u32], node: usize, out: &mut [u8]) -> Answer {
+    if out.len() > 65_535 {
+        return refused(1, used);
+    }
+    if let Err(number) = check(table, used, stack) {
+        return refused(number, used);
+    }
+    if node >= used {
+        return refused(3, used);
+    }
+    // A refusal leaves the out bytes as they were, so the digits are gone through twice.
+    let measured = digits(table, stack, node, out.len(), |_, _| {});
+    let written = measured.and_then(|_| {
+        let room = out.len();
+        digits(table, stack, node, room, |i, digit| out[i] = digit)
+    });
+    stack.fill(0);
+    match written {
+        Ok(n) => [0, 0, used, 0, n],
+        Err(number) => refused(number, used),
+    }
+}
+
+#[inline(never)]
+pub fn apply(
+    table: &mut [u32],
+    used: usize,
+    stack: &mut [u32],
+    function: usize,
+    argument: usize,
+    limit: usize,
+) -> Answer {
+    if limit > 1_000_000 {
+        return refused(1, used);
+    }
+    if let Err(number) = check(table, used, stack) {
+        return refused(number, used);
+    }
+    if function >= used || argument >= used {
+        return refused(3, used);
+    }
+    let (nodes, frames) = (table.len() / 2, stack.len() / 3);
+    let (mut f, mut n) = (function as u32, argument as u32);
+    let (mut made, mut held, mut steps) = (used, 0, 0);
+    let ended = loop {
+        if steps == limit {
+            break Err(7);
+        }
+        let at = 2 * f as usize;
+        let (a, b) = (table[at], table[at + 1]);
+        let v;
+        if a == 0 || b == 0 {
+            if made == nodes {
+                break Err(8);
+            }
+            let (first, second) = if a == 0 { (n + 1, 0) } else { (a, n + 1) };
+            table[2 * made] = first;
+            table[2 * made + 1] = second;
+            v = made as u32;
+            made += 1;
+        } else {
+            let at = 2 * (a as usize - 1);
+            let (p, q) = (table[at], table[at + 1]);
+            if p == 0 {
+                v = b - 1;
+            } else {
+                if held == frames {
+                    break Err(9);
+                }
+                let frame = &mut stack[3 * held..3 * held + 3];
+                held += 1;
+                steps += 1;
+                if q == 0 {
+                    frame.copy_from_slice(&[0, p - 1, n]);
+                    f = b - 1;
+                } else {
+                    frame[..2].copy_from_slice(&[2, q - 1]);
+                    f = n;
+                    n = p - 1;
+                }
+                continue;
+            }
+        }
+        steps += 1;
+        if held == 0 {
+            break Ok(v);
+        }
+        let frame = &mut stack[3 * held - 3..3 * held];
+        match frame[0] {
+            0 => {
+                (f, n) = (frame[1], frame[2]);
+                frame[0] = 1;
+                frame[1] = v;
+            }
+            1 => {
+                (f, n) = (frame[1], v);
+                held -= 1;
+            }
+            _ => {
+                (f, n) = (v, frame[1]);
+                held -= 1;
+            }
+        }
+    };
+    stack.fill(0);
+    match ended {
+        Ok(v) => [0, v as usize, made, steps, 0],
+        Err(number) => {
+            table[2 * used..2 * made].fill(0);
+            refused(number, used)
+        }
+    }
+}
+
+// ---- Translate
+
+enum Term {
+    Leaf,
+    Variable(usize),
+    Apply(Box<Term>, Box<Term>),
+    Abstract(Box<Term>),
+}
+
+fn parse(bytes: &mut &[u8], around: usize) -> Option<Term> {
+    let (tag, rest) = bytes.split_first()?;
+    *bytes = rest;
+    match tag {
+        0 => Some(Term::Leaf),
+        1 => {
+            let function = parse(bytes, around)?;
+            let argument = parse(bytes, around)?;
+            Some(Term::Apply(Box::new(function), Box::new(argument)))
+        }
+        2 if around < 16 => Some(Term::Abstract(Box::new(parse(bytes, around + 1)?))),
+        3 => {
+            let (index, rest) = bytes.split_first()?;
+            *bytes = rest;
+            let index = usize::from(*index);
+            (index < around).then_some(Term::Variable(index))
+        }
+        _ => None,
+    }
+}
+
+/// The leaves and variables of the translation, and how many are each variable.
+fn size(term: &Term) -> (u64, [u64; 17]) {
+    let mut of = [0; 17];
+    match term {
+        Term::Leaf => (1, of),
+        Term::Variable(i) => {
+            of[*i] = 1;
+            (1, of)
+        }
+        Term::Apply(f, a) => {
+            let ((k, fs), (l, gs)) = (size(f), size(a));
+            for (sum, (f, g)) in of.iter_mut().zip(fs.iter().zip(gs)) {
+                *sum = f + g;
+            }
+            (k + l, of)
+        }
+        Term::Abstract(body) => {
+            let (k, inner) = size(body);
+            of[..16].copy_from_slice(&inner[1..]);
+            (5 * k - 2 + 2 * inner[0], of)
+        }
+    }
+}
+
+fn applied(f: Term, a: Term) -> Term {
+    Term::Apply(Box::new(f), Box::new(a))
+}
+
+fn spread_of(a: Term, b: Term) -> Term {
+    applied(applied(Term::Leaf, applied(Term::Leaf, a)), b)
+}
+
+fn constant(a: Term) -> Term {
+    applied(applied(Term::Leaf, Term::Leaf), a)
+}
+
+fn translated(term: Term) -> Term {
+    match term {
+        Term::Apply(f, a) => applied(translated(*f), translated(*a)),
+        Term::Abstract(body) => abstracted(translated(*body)),
+        other => other,
+    }
+}
+
+fn abstracted(term: Term) -> Term {
+    match term {
+        Term::Variable(0) => spread_of(Term::Leaf, applied(Term::Leaf, Term::Leaf)),
+        Term::Variable(i) => constant(Term::Variable(i - 1)),
+        Term::Apply(u, v) => spread_of(abstracted(*v), abstracted(*u)),
+        other => constant(other),
+    }
+}
+
+/// Lays the tree of a closed term, second branch first; its node.
+fn lay(table: &mut [u32], made: &mut usize, term: &Term) -> u32 {
+    let (first, second) = match term {
+        Term::Apply(f, a) => match &**f {
+            Term::Apply(_, p) => {
+                let second = lay(table, made, a) + 1;
+                (lay(table, made, p) + 1, second)
+            }
+            _ => (lay(table, made, a) + 1, 0),
+        },
+        _ => (0, 0),
+    };
+    table[2 * *made] = first;
+    table[2 * *made + 1] = second;
+    *made += 1;
+    *made as u32 - 1
+}
+
+#[inline(never)]
+pub fn translate(table: &mut [u32], used: usize, stack: &mut [u32], bytes: &[u8]) -> Answer {
+    if let Err(number) = check(table, used, stack) {
+        return refused(number, used);
+    }
+    let mut rest = bytes;
+    let rule = if bytes.len() <= 4_096 && bytes.first() == Some(&2) {
+        parse(&mut rest, 0).filter(|_| rest.is_empty())
+    } else {
+        None
+    };
+    let Some(rule) = rule else {
+        return refused(5, used);
+    };
+    let (n, _) = size(&rule);
+    let number = if (table.len() / 2 - used) as u64 >= n {
+        if (stack.len() / 3) as u64 >= 2 * n {
+            0
+        } else {
+            9
+        }
+    } else {
+        8
+    };
+    stack.fill(0);
+    if number != 0 {
+        return refused(number, used);
+    }
+    let mut made = used;
+    lay(table, &mut made, &translated(rule));
+    [0, made - 1, made, 0, 0]
+}

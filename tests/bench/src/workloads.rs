@@ -1,0 +1,180 @@
+//! What is applied to what.
+
+use crate::plain::Answer;
+use compare::packets::Parts;
+
+/// One application, ready to be made over and over: a call writes only nodes past `used` and the
+/// stack, and leaves the stack zero.
+pub struct Workload {
+    pub name: &'static str,
+    pub table: Vec<u32>,
+    pub stack: Vec<u32>,
+    pub used: usize,
+    pub function: usize,
+    pub argument: usize,
+    pub limit: usize,
+    /// A packet whose run ends in the same application.
+    pub parts: Parts,
+    pub answer: Answer,
+}
+
+const SELF: &[u8] = &[2, 1, 3, 0, 3, 0];
+const STEM_OF_SELF: &[u8] = &[2, 1, 0, 1, 3, 0, 3, 0];
+const IDENTITY: &[u8] = &[2, 3, 0];
+const STEM: &[u8] = &[2, 1, 0, 3, 0];
+const ZERO: &[u8] = &[2, 2, 3, 0];
+const SUCCESSOR: &[u8] = &[2, 2, 2, 1, 3, 1, 3, 2];
+/// λf.λn. n (λm. Δ(f f m)) Δ.
+const COUNT: &[u8] = &[2, 2, 1, 1, 3, 0, 2, 1, 0, 1, 1, 3, 2, 3, 2, 3, 0, 0];
+
+/// λf.λx. f applied n times to x.
+fn times(n: usize) -> Vec<u8> {
+    let mut rule = vec![2, 2];
+    rule.extend([1, 3, 1].repeat(n));
+    rule.extend([3, 0]);
+    rule
+}
+
+fn text_of(rule: &[u8]) -> Vec<u8> {
+    model::rule_text(rule, 10_000).expect("a rule of moderate size")
+}
+
+pub fn answer_of(numbers: lazvorn::Numbers) -> Answer {
+    [
+        numbers.refusal,
+        numbers.node,
+        numbers.used,
+        numbers.steps,
+        numbers.digits,
+    ]
+}
+
+/// The text of a number of successors of zero.
+fn number(n: usize) -> Vec<u8> {
+    let (mut table, mut stack, mut out) = (vec![0; 131_072], vec![0; 65_535], vec![0; 65_535]);
+    let zero = lazvorn::translate(&mut table, 0, &mut stack, ZERO);
+    let successor = lazvorn::translate(&mut table, zero.used, &mut stack, SUCCESSOR);
+    let (mut node, mut used) = (zero.node, successor.used);
+    for _ in 0..n {
+        let applied = lazvorn::apply(&mut table, used, &mut stack, successor.node, node, 1_000);
+        assert_eq!(applied.refusal, 0);
+        (node, used) = (applied.node, applied.used);
+    }
+    let written = lazvorn::write(&table, used, &mut stack, node, &mut out);
+    assert_eq!(written.refusal, 0);
+    out.truncate(written.digits);
+    out
+}
+
+impl Workload {
+    fn new(
+        name: &'static str,
+        rule: &[u8],
+        arguments: Vec<Vec<u8>>,
+        limit: usize,
+        (nodes, frames): (usize, usize),
+    ) -> Workload {
+        let (mut table, mut stack) = (vec![0; 2 * nodes], vec![0; 3 * frames]);
+        let translated = lazvorn::translate(&mut table, 0, &mut stack, rule);
+        assert_eq!(translated.refusal, 0, "{name}");
+        let (mut function, mut used) = (translated.node, translated.used);
+        let mut read = Vec::new();
+        for text in &arguments {
+            let numbers = lazvorn::read(&mut table, used, &mut stack, text);
+            assert_eq!(numbers.refusal, 0, "{name}");
+            used = numbers.used;
+            read.push(numbers.node);
+        }
+        let (argument, before) = read.split_last().expect("an argument");
+        for node in before {
+            let applied = lazvorn::apply(&mut table, used, &mut stack, function, *node, limit);
+            assert_eq!(applied.refusal, 0, "{name}");
+            (function, used) = (applied.node, applied.used);
+        }
+        let parts = Parts {
+            rule: rule.to_vec(),
+            arguments,
+            limit: Some(limit as u32),
+        };
+        let mut workload = Workload {
+            name,
+            table,
+            stack,
+            used,
+            function,
+            argument: *argument,
+            limit,
+            parts,
+            answer: [0; 5],
+        };
+        workload.answer = workload.apply();
+        workload
+    }
+
+    pub fn apply(&mut self) -> Answer {
+        answer_of(lazvorn::apply(
+            &mut self.table,
+            self.used,
+            &mut self.stack,
+            self.function,
+            self.argument,
+            self.limit,
+        ))
+    }
+}
+
+/// The most nodes and frames.
+const MOST: (usize, usize) = (65_536, 21_845);
+
+/// λx. x x on itself, cut off by a step limit.
+pub fn endless(limit: usize) -> Workload {
+    Workload::new(
+        "endless, cut by its limit",
+        SELF,
+        vec![text_of(SELF)],
+        limit,
+        MOST,
+    )
+}
+
+pub fn all() -> Vec<Workload> {
+    let five = times(5);
+    vec![
+        endless(100_000),
+        Workload::new(
+            "endless inside an application, cut for want of frames",
+            STEM_OF_SELF,
+            vec![text_of(STEM_OF_SELF)],
+            1_000_000,
+            MOST,
+        ),
+        Workload::new(
+            "long evaluation: 5 to the 5th stems",
+            &five,
+            vec![text_of(&five), text_of(STEM), b"0".to_vec()],
+            1_000_000,
+            MOST,
+        ),
+        Workload::new(
+            "a fixpoint that counts to 200",
+            COUNT,
+            vec![text_of(COUNT), number(200)],
+            1_000_000,
+            MOST,
+        ),
+        Workload::new(
+            "short call, 4 steps, little room",
+            IDENTITY,
+            vec![b"0".to_vec()],
+            100,
+            (64, 16),
+        ),
+        Workload::new(
+            "short call, 4 steps, the program's room",
+            IDENTITY,
+            vec![b"0".to_vec()],
+            10_000,
+            (8_192, 4_096),
+        ),
+    ]
+}

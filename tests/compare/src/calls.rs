@@ -1,0 +1,368 @@
+//! Read, Write, Translate, Apply and Label beside the model, on tables that are sound, broken or
+//! noise, with lengths and numbers at and beyond every border.
+
+use crate::{answer_of, difference, hexadecimal, Counts, Noise};
+use compare::random::Random;
+use compare::trees;
+use model::{Answer, Memory};
+
+/// An operation, with the refusals that it can meet.
+#[derive(Clone, Copy)]
+pub struct Operation {
+    pub name: &'static str,
+    pub refusals: &'static [usize],
+    call: fn(&mut Random, &Noise) -> Call,
+}
+
+pub const OPERATIONS: [Operation; 5] = [
+    Operation {
+        name: "Read",
+        refusals: &[1, 2, 4, 8, 9],
+        call: read,
+    },
+    Operation {
+        name: "Write",
+        refusals: &[1, 2, 3, 9, 10],
+        call: write,
+    },
+    Operation {
+        name: "Translate",
+        refusals: &[1, 2, 5, 8, 9],
+        call: translate,
+    },
+    Operation {
+        name: "Apply",
+        refusals: &[1, 2, 3, 7, 8, 9],
+        call: apply,
+    },
+    Operation {
+        name: "Label",
+        refusals: &[1, 2, 3, 8],
+        call: label,
+    },
+];
+
+/// A call that was made: the model's refusal, and what it was where the engine differs.
+struct Call {
+    refusal: usize,
+    difference: Option<String>,
+}
+
+/// Makes so many calls; how often each refusal was met, and how many differ.
+pub fn compare(
+    random: &mut Random,
+    noise: &Noise,
+    operation: Operation,
+    calls: usize,
+) -> (Counts, usize) {
+    let mut counts = [0; 11];
+    let mut differences = 0;
+    for _ in 0..calls {
+        let call = (operation.call)(random, noise);
+        counts[call.refusal] += 1;
+        if let Some(difference) = call.difference {
+            differences += 1;
+            println!("{} {difference}", operation.name);
+        }
+    }
+    (counts, differences)
+}
+
+/// Makes one call on two copies of a memory.
+fn both(
+    memory: Memory,
+    what: impl FnOnce() -> String,
+    engine: impl FnOnce(&mut Memory) -> lazvorn::Numbers,
+    model: impl FnOnce(&mut Memory) -> Answer,
+) -> Call {
+    let (mut ours, mut theirs) = (memory.clone(), memory.clone());
+    let answer = answer_of(engine(&mut ours));
+    let modelled = model(&mut theirs);
+    let place = difference(&ours, &theirs);
+    let differs = answer != modelled || place.is_some();
+    Call {
+        refusal: modelled[0],
+        difference: differs.then(|| {
+            format!(
+                "{}, {} words of stack, {} out bytes, table {:?}\nengine: {answer:?}\nmodel:  {modelled:?}\n{}",
+                what(),
+                memory.stack.len(),
+                memory.out.len(),
+                memory.table,
+                place.unwrap_or_default()
+            )
+        }),
+    }
+}
+
+/// A number that is far from every bound.
+fn odd_number(random: &mut Random) -> usize {
+    let odd = [
+        65_536,
+        131_072,
+        1 << 31,
+        (1 << 31) - 1,
+        1 << 32,
+        (1 << 32) + 1,
+        1 << 63,
+        usize::MAX / 2,
+        usize::MAX / 3,
+        usize::MAX - 1,
+        usize::MAX,
+    ];
+    *random.pick(&odd)
+}
+
+/// The first `used` nodes of a table as random nodes that are not broken.
+fn sow(random: &mut Random, table: &mut [u32], used: usize) {
+    for i in 0..used {
+        let branch = |random: &mut Random| {
+            if i > 6 && random.once_in(2) {
+                random.within(i - 5, i) as u32
+            } else {
+                random.within(1, i.max(1)) as u32
+            }
+        };
+        let (first, second) = match random.below(if i == 0 { 1 } else { 6 }) {
+            0 => (0, 0),
+            1 | 2 => (branch(random), 0),
+            _ => (branch(random), branch(random)),
+        };
+        table[2 * i] = first;
+        table[2 * i + 1] = second;
+    }
+}
+
+/// Puts the trees of some rules and texts into a table; how many nodes are in use then.
+fn plant(random: &mut Random, table: &mut Vec<u32>) -> usize {
+    let mut memory = Memory {
+        table: std::mem::take(table),
+        stack: vec![0; 12_000],
+        out: Vec::new(),
+    };
+    let mut used = 0;
+    for _ in 0..random.within(1, 4) {
+        let answer = if random.once_in(2) {
+            let rule = *random.pick(trees::RULES);
+            model::translate(&mut memory, used, rule)
+        } else {
+            let text = trees::text(random);
+            model::read(&mut memory, used, &text)
+        };
+        used = answer[2];
+    }
+    *table = memory.table;
+    used
+}
+
+/// A count of words for a table of a few nodes, or of none, or of as many as may be, or more.
+fn words(random: &mut Random) -> usize {
+    match random.below(300) {
+        0 => 131_072,
+        1 => 131_073,
+        2..=99 => random.below(30),
+        100..=279 => random.below(400),
+        _ => random.below(6_000),
+    }
+}
+
+/// Memory with a table that has some nodes in use: sound, broken at one node, or mere noise.
+fn memory(random: &mut Random, noise: &Noise, stack: usize, out: usize) -> (Memory, usize) {
+    let words = words(random);
+    let mut memory = noise.memory(random, words, stack, out);
+    let capacity = words / 2;
+    let mut used = match random.below(8) {
+        0..=3 => plant(random, &mut memory.table),
+        4..=6 => {
+            let used = random.below(capacity.min(3_000) + 1);
+            sow(random, &mut memory.table, used);
+            used
+        }
+        _ => random.below(capacity + 1),
+    };
+    match random.below(60) {
+        0 => used = capacity + random.within(1, 3),
+        1 => used = odd_number(random),
+        2..=6 if used > 0 => {
+            // One broken node: a second branch alone, a branch that is the node itself or comes after
+            // it.
+            let i = if random.once_in(3) {
+                used - 1
+            } else {
+                random.below(used)
+            };
+            let node = &mut memory.table[2 * i..2 * i + 2];
+            match random.below(4) {
+                0 => node.copy_from_slice(&[0, random.within(1, 4) as u32]),
+                1 => node[0] = i as u32 + 1,
+                2 => node.copy_from_slice(&[1, i as u32 + 1]),
+                _ => node[random.below(2)] = random.number() as u32 | 1 << 31,
+            }
+        }
+        _ => {}
+    }
+    (memory, used)
+}
+
+/// A count of words for a stack.
+fn stack(random: &mut Random) -> usize {
+    match random.below(300) {
+        0 => 65_536,
+        1 => 65_537,
+        2..=99 => random.below(12),
+        100..=199 => random.below(120),
+        _ => random.below(3_000),
+    }
+}
+
+/// A node number that is most often in use.
+fn node(random: &mut Random, used: usize) -> usize {
+    match random.below(40) {
+        0 => used,
+        1 => odd_number(random),
+        2..=20 if used > 0 => used - 1 - random.below(used.min(6)),
+        _ if used > 0 => random.below(used),
+        _ => 0,
+    }
+}
+
+fn read(random: &mut Random, noise: &Noise) -> Call {
+    let text = match random.below(400) {
+        0 => {
+            let depth = random.within(20_000, 33_000);
+            trees::deep(random, depth)
+        }
+        1 => vec![b'0'; 65_536],
+        2..=120 => trees::wrong_text(random),
+        _ => trees::text(random),
+    };
+    let words = stack(random);
+    let (mut memory, used) = memory(random, noise, words, 0);
+    if random.once_in(3) && used <= memory.table.len() / 2 {
+        // Just enough nodes, one too few or one more.
+        let words = 2 * random.near(used + text.len()) + random.below(2);
+        let more = noise.memory(random, words.min(131_073), 0, 0).table;
+        let keep = (2 * used).min(more.len());
+        memory.table.truncate(keep);
+        memory.table.extend_from_slice(&more[keep..]);
+    }
+    both(
+        memory,
+        || {
+            format!(
+                "{used} nodes in use, text {}",
+                String::from_utf8_lossy(&text)
+            )
+        },
+        |m| lazvorn::read(&mut m.table, used, &mut m.stack, &text),
+        |m| model::read(m, used, &text),
+    )
+}
+
+fn write(random: &mut Random, noise: &Noise) -> Call {
+    let words = stack(random);
+    let out = match random.below(300) {
+        0 => 65_535,
+        1 => 65_536,
+        2..=99 => random.below(12),
+        _ => random.below(2_000),
+    };
+    let (mut memory, used) = memory(random, noise, words, out);
+    let node = node(random, used);
+    if random.once_in(3) {
+        // Just enough out bytes, one too few or one more.
+        let mut large = memory.clone();
+        large.stack = vec![0; 65_536];
+        large.out = vec![0; 65_535];
+        let answer = model::write(&mut large, used, node);
+        if answer[0] == 0 {
+            memory.out.resize(random.near(answer[4]), b'?');
+        }
+    }
+    both(
+        memory,
+        || format!("node {node}, {used} nodes in use"),
+        |m| lazvorn::write(&m.table, used, &mut m.stack, node, &mut m.out),
+        |m| model::write(m, used, node),
+    )
+}
+
+fn translate(random: &mut Random, noise: &Noise) -> Call {
+    let bytes = match random.below(100) {
+        0..=3 => trees::large_rule(random),
+        4..=24 => trees::wrong_rule(random),
+        25..=50 => random.pick(trees::RULES).to_vec(),
+        _ => trees::rule(random),
+    };
+    let words = stack(random);
+    let (mut memory, used) = memory(random, noise, words, 0);
+    if random.once_in(3) && used <= memory.table.len() / 2 {
+        // About as many nodes or frames as the rule's tree wants.
+        if let Some(text) = model::rule_text(&bytes, 20_000) {
+            let words = (2 * random.near(used + text.len()) + random.below(2)).min(131_072);
+            let stack = (6 * text.len() + random.below(3)).saturating_sub(random.below(2));
+            let more = noise.memory(random, words, stack.min(65_537), 0);
+            let keep = (2 * used).min(words);
+            memory.table.truncate(keep);
+            memory.table.extend_from_slice(&more.table[keep..]);
+            memory.stack = more.stack;
+        }
+    }
+    both(
+        memory,
+        || format!("{used} nodes in use, rule {}", hexadecimal(&bytes)),
+        |m| lazvorn::translate(&mut m.table, used, &mut m.stack, &bytes),
+        |m| model::translate(m, used, &bytes),
+    )
+}
+
+fn apply(random: &mut Random, noise: &Noise) -> Call {
+    let words = stack(random);
+    let (mut memory, used) = memory(random, noise, words, 0);
+    let (function, argument) = (node(random, used), node(random, used));
+    let mut limit = match random.below(80) {
+        0 => *random.pick(&[1_000_001, usize::MAX, 1 << 32]),
+        1 => 1_000_000,
+        2..=40 => random.below(40),
+        _ => random.below(3_000),
+    };
+    if random.once_in(3) {
+        // Just enough steps or nodes, one too few or one more.
+        let mut large = memory.clone();
+        large
+            .table
+            .resize(large.table.len().min(131_072) + 4_000, 7);
+        large.table.truncate(131_072);
+        let answer = model::apply(&mut large, used, function, argument, 3_000);
+        if answer[0] == 0 {
+            if random.once_in(2) {
+                limit = random.near(answer[3]);
+            } else {
+                memory
+                    .table
+                    .resize(2 * random.near(answer[2]) + random.below(2), 7);
+            }
+        }
+    }
+    both(
+        memory,
+        || format!("{function} to {argument}, limit {limit}, {used} nodes in use"),
+        |m| lazvorn::apply(&mut m.table, used, &mut m.stack, function, argument, limit),
+        |m| model::apply(m, used, function, argument, limit),
+    )
+}
+
+fn label(random: &mut Random, noise: &Noise) -> Call {
+    let (mut memory, used) = memory(random, noise, 5, 5);
+    let (rule, label) = (node(random, used), node(random, used));
+    if random.once_in(3) && used <= memory.table.len() / 2 {
+        let words = 2 * random.near(used + 7) + random.below(2);
+        memory.table.resize(words, 3);
+    }
+    both(
+        memory,
+        || format!("{rule} with {label}, {used} nodes in use"),
+        |m| lazvorn::label(&mut m.table, used, rule, label),
+        |m| model::label(m, used, rule, label),
+    )
+}

@@ -1,0 +1,137 @@
+//! Compares the engine with the second evaluator on packets, and with the model on packets and on
+//! calls of each operation: answers and every lent word and byte. Prints each difference and, at the
+//! end, how often each refusal was met. The exit status is 1 where anything differs, and where a
+//! refusal from 4 to 10 was met too seldom for the run to mean something.
+//!
+//! `compare [PACKETS [SEED]]`
+
+mod calls;
+mod runs;
+
+use compare::random::Random;
+use model::{Answer, Memory};
+
+/// How many packets and how many calls a run compares if nothing else is asked.
+const PACKETS: usize = 120_000;
+const CALLS: usize = 200_000;
+
+/// How often a packet must meet each refusal from 4 to 10.
+const SELDOM: usize = 100;
+
+/// How often each refusal was met, and 0 for success.
+pub type Counts = [usize; 11];
+
+/// Words and bytes to fill lent memory with: small numbers among them, so that words which a call
+/// fails to write may pass for branches.
+pub struct Noise {
+    words: Vec<u32>,
+    bytes: Vec<u8>,
+}
+
+/// Room for the largest memory at any of many offsets.
+const NOISE: usize = 131_073 + 4_096;
+
+impl Noise {
+    fn new(random: &mut Random) -> Self {
+        let words = (0..NOISE).map(|_| match random.below(4) {
+            0 => random.below(8) as u32,
+            1 => random.below(5_000) as u32,
+            _ => random.number() as u32,
+        });
+        let words = words.collect();
+        let bytes = (0..NOISE).map(|_| random.number() as u8).collect();
+        Noise { words, bytes }
+    }
+
+    /// Memory of these lengths, full of noise.
+    pub fn memory(&self, random: &mut Random, table: usize, stack: usize, out: usize) -> Memory {
+        let mut at = || random.below(4_096);
+        let (t, s, o) = (at(), at(), at());
+        Memory {
+            table: self.words[t..t + table].to_vec(),
+            stack: self.words[s..s + stack].to_vec(),
+            out: self.bytes[o..o + out].to_vec(),
+        }
+    }
+}
+
+/// The numbers of an answer from the engine.
+pub fn answer_of(numbers: lazvorn::Numbers) -> Answer {
+    [
+        numbers.refusal,
+        numbers.node,
+        numbers.used,
+        numbers.steps,
+        numbers.digits,
+    ]
+}
+
+pub fn hexadecimal(bytes: &[u8]) -> String {
+    bytes.iter().map(|byte| format!("{byte:02x}")).collect()
+}
+
+/// Where two memories differ first, if they do.
+pub fn difference(engine: &Memory, model: &Memory) -> Option<String> {
+    fn first<T: PartialEq + std::fmt::Debug>(part: &str, a: &[T], b: &[T]) -> Option<String> {
+        let i = (0..a.len().max(b.len())).find(|&i| a.get(i) != b.get(i))?;
+        let (a, b) = (a.get(i), b.get(i));
+        Some(format!("{part}[{i}] is {a:?} and should be {b:?}"))
+    }
+    if engine == model {
+        return None;
+    }
+    first("table", &engine.table, &model.table)
+        .or_else(|| first("stack", &engine.stack, &model.stack))
+        .or_else(|| first("out", &engine.out, &model.out))
+}
+
+fn print(what: &str, counts: &Counts) {
+    let refusals: Vec<String> = (1..=10).map(|k| format!("{k}: {}", counts[k])).collect();
+    let all: usize = counts.iter().sum();
+    println!(
+        "{what:<10} {all:>7} compared, {:>6} succeeded; refused {}",
+        counts[0],
+        refusals.join(", ")
+    );
+}
+
+fn compare() -> bool {
+    let words: Vec<u64> = std::env::args()
+        .skip(1)
+        .map(|word| word.parse().expect("usage: compare [PACKETS [SEED]]"))
+        .collect();
+    let packets = words.first().map_or(PACKETS, |n| *n as usize);
+    let mut random = Random::new(words.get(1).copied().unwrap_or(20_261_115));
+    let noise = Noise::new(&mut random);
+
+    let (counts, mut differences) = runs::compare(&mut random, &noise, packets);
+    print("Run", &counts);
+    for (number, count) in counts.iter().enumerate().skip(4) {
+        if *count < SELDOM {
+            println!("refusal {number} was met {count} times: too seldom");
+            differences += 1;
+        }
+    }
+    for operation in calls::OPERATIONS {
+        let (counts, more) = calls::compare(&mut random, &noise, operation, CALLS / 5);
+        print(operation.name, &counts);
+        for number in operation.refusals {
+            if counts[*number] == 0 {
+                println!("{}: refusal {number} was never met", operation.name);
+                differences += 1;
+            }
+        }
+        differences += more;
+    }
+    println!("{differences} differences");
+    differences == 0
+}
+
+fn main() {
+    // The model and the second evaluator recurse as deep as trees and frames go.
+    let thread = std::thread::Builder::new().stack_size(1 << 30);
+    let same = thread.spawn(compare).expect("a thread").join();
+    if !matches!(same, Ok(true)) {
+        std::process::exit(1);
+    }
+}

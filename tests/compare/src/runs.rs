@@ -1,0 +1,131 @@
+//! Run beside the second evaluator and the model.
+
+use crate::{answer_of, difference, hexadecimal, Counts, Noise};
+use compare::packets::{self, Case};
+use compare::random::Random;
+use model::{Answer, Memory};
+
+/// The line that the program would print for a run.
+fn line(answer: &Answer, out: &[u8]) -> String {
+    let [refusal, _, used, steps, digits] = *answer;
+    let text = if refusal == 0 {
+        String::from_utf8_lossy(&out[..digits]).into_owned()
+    } else {
+        "-".to_string()
+    };
+    format!("{refusal} {steps} {used} {text}")
+}
+
+fn second_line(case: &Case) -> String {
+    let room = case.room;
+    if room.table > 131_072 || room.stack > 65_536 || room.out > 65_535 {
+        return "1 0 0 -".to_string();
+    }
+    let room = second::Room {
+        nodes: room.table / 2,
+        frames: room.stack / 3,
+        out: room.out,
+        default_limit: 10_000,
+    };
+    second::line(&second::run(&case.packet, room))
+}
+
+/// Whether memory is as the paper says that every refusal and every success leaves it. This knows of
+/// the answer alone, and the model, which fixes every word, is compared besides.
+fn kept(before: &Memory, after: &Memory, answer: &Answer) -> bool {
+    let [refusal, _, used, _, digits] = *answer;
+    let zero = after.stack.iter().all(|word| *word == 0);
+    match refusal {
+        0 => {
+            zero && after.table[2 * used..] == before.table[2 * used..]
+                && after.out[digits..] == before.out[digits..]
+        }
+        1..=6 => before == after,
+        _ => {
+            // Words set to 0 come first, then words as found.
+            let same = before.table.iter().zip(&after.table).rev();
+            let kept = same.take_while(|(b, a)| b == a).count();
+            let rest = after.table.len() - kept;
+            zero && before.out == after.out && after.table[..rest].iter().all(|word| *word == 0)
+        }
+    }
+}
+
+/// Runs a case and adds it to the counts. Gives the engine's answer, and false where it differs.
+fn check(random: &mut Random, noise: &Noise, case: &Case, counts: &mut Counts) -> (Answer, bool) {
+    let room = case.room;
+    let before = noise.memory(random, room.table, room.stack, room.out);
+    let mut engine = before.clone();
+    let answer = answer_of(lazvorn::run(
+        &mut engine.table,
+        &mut engine.stack,
+        &mut engine.out,
+        &case.packet,
+    ));
+    let mut expected = before.clone();
+    let modelled = model::run(&mut expected, &case.packet);
+    counts[modelled[0]] += 1;
+
+    let mut wrong = Vec::new();
+    let (ours, theirs) = (line(&answer, &engine.out), second_line(case));
+    if ours != theirs {
+        wrong.push(format!("engine: {ours}\nsecond: {theirs}"));
+    }
+    if answer != modelled {
+        wrong.push(format!("engine: {answer:?}\nmodel:  {modelled:?}"));
+    }
+    wrong.extend(difference(&engine, &expected));
+    if !kept(&before, &engine, &answer) {
+        wrong.push("memory is not as the answer's number says".to_string());
+    }
+    if !wrong.is_empty() {
+        println!("packet {}\nin {room:?}", hexadecimal(&case.packet));
+        println!("{}", wrong.join("\n"));
+    }
+    (answer, wrong.is_empty())
+}
+
+/// Runs so many packets; how often each refusal was met, and how many differ.
+pub fn compare(random: &mut Random, noise: &Noise, packets: usize) -> (Counts, usize) {
+    let mut counts = [0; 11];
+    let mut differences = 0;
+    let mut done = 0;
+    while done < packets {
+        let case = packets::case(random);
+        let (answer, same) = check(random, noise, &case, &mut counts);
+        done += 1;
+        differences += usize::from(!same);
+        let [refusal, _, used, steps, digits] = answer;
+        if refusal != 0 || case.parts.is_none() {
+            continue;
+        }
+        for _ in 0..random.below(4) {
+            let case = packets::at_border(random, &case, used, steps, digits);
+            differences += usize::from(!check(random, noise, &case, &mut counts).1);
+            done += 1;
+        }
+        if random.once_in(8) {
+            let case = with_few_frames(random, &case);
+            differences += usize::from(!check(random, noise, &case, &mut counts).1);
+            done += 1;
+        }
+    }
+    (counts, differences)
+}
+
+/// A case that succeeds, with just enough frames by the second evaluator, or one too few.
+fn with_few_frames(random: &mut Random, case: &Case) -> Case {
+    let mut case = case.clone();
+    let (mut few, mut enough) = (0, case.room.stack / 3);
+    while few < enough {
+        let middle = (few + enough) / 2;
+        case.room.stack = 3 * middle;
+        if second_line(&case).starts_with("0 ") {
+            enough = middle;
+        } else {
+            few = middle + 1;
+        }
+    }
+    case.room.stack = (3 * enough + 2).saturating_sub(random.below(4));
+    case
+}

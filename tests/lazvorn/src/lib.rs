@@ -1,0 +1,229 @@
+//! The engine's operations as safe Rust functions over the static library of the crate `ffi`.
+//!
+//! The library has no state and no heap: a caller lends a table, a stack and out bytes, and every
+//! call leaves in them what document 01 says. No call has a condition on its arguments: lengths,
+//! counts and node numbers that do not fit are refused.
+
+/// The five numbers of an answer. A refusal has `used` as at entry and 0 for the numbers after it.
+#[derive(Clone, Copy, Debug, Default, PartialEq, Eq)]
+pub struct Numbers {
+    /// 0 for success, else the refusal's number.
+    pub refusal: usize,
+    /// The node that was made or found.
+    pub node: usize,
+    /// The count of used nodes after the call.
+    pub used: usize,
+    /// The uses of the five rules.
+    pub steps: usize,
+    /// The digits written.
+    pub digits: usize,
+}
+
+/// Table or stack too long, `used` above the capacity, out bytes or step limit too large.
+pub const LIMITS: usize = 1;
+/// A used node is broken.
+pub const BROKEN: usize = 2;
+/// A node number is not below `used`.
+pub const NODE: usize = 3;
+/// A text is not one whole tree, or too long.
+pub const TEXT: usize = 4;
+/// Bytes are not a rule.
+pub const RULE: usize = 5;
+/// A packet is broken.
+pub const PACKET: usize = 6;
+/// The step limit is reached.
+pub const STEPS: usize = 7;
+/// A new node has no place.
+pub const NODES: usize = 8;
+/// Every frame is held.
+pub const FRAMES: usize = 9;
+/// The out bytes are full.
+pub const OUT: usize = 10;
+
+/// A slice crosses the boundary as a pointer and a length. Nothing checks these declarations
+/// against the library, so `tests/boundary.rs` calls each with arguments that differ.
+mod raw {
+    extern "C" {
+        pub fn lazvorn_read(
+            table: *mut u32,
+            table_len: usize,
+            used: usize,
+            stack: *mut u32,
+            stack_len: usize,
+            text: *const u8,
+            text_len: usize,
+            answer: *mut [usize; 5],
+        );
+        pub fn lazvorn_write(
+            table: *const u32,
+            table_len: usize,
+            used: usize,
+            stack: *mut u32,
+            stack_len: usize,
+            node: usize,
+            out: *mut u8,
+            out_len: usize,
+            answer: *mut [usize; 5],
+        );
+        pub fn lazvorn_translate(
+            table: *mut u32,
+            table_len: usize,
+            used: usize,
+            stack: *mut u32,
+            stack_len: usize,
+            bytes: *const u8,
+            bytes_len: usize,
+            answer: *mut [usize; 5],
+        );
+        pub fn lazvorn_apply(
+            table: *mut u32,
+            table_len: usize,
+            used: usize,
+            stack: *mut u32,
+            stack_len: usize,
+            function: usize,
+            argument: usize,
+            limit: usize,
+            answer: *mut [usize; 5],
+        );
+        pub fn lazvorn_label(
+            table: *mut u32,
+            table_len: usize,
+            used: usize,
+            rule: usize,
+            label: usize,
+            answer: *mut [usize; 5],
+        );
+        pub fn lazvorn_run(
+            table: *mut u32,
+            table_len: usize,
+            stack: *mut u32,
+            stack_len: usize,
+            out: *mut u8,
+            out_len: usize,
+            packet: *const u8,
+            packet_len: usize,
+            answer: *mut [usize; 5],
+        );
+    }
+}
+
+/// The numbers that `call` writes into the array it is given.
+fn numbers(call: impl FnOnce(*mut [usize; 5])) -> Numbers {
+    let mut answer = [usize::MAX; 5];
+    call(&mut answer);
+    let [refusal, node, used, steps, digits] = answer;
+    Numbers {
+        refusal,
+        node,
+        used,
+        steps,
+        digits,
+    }
+}
+
+// In each function below the pointers and lengths are those of Rust slices, which are valid for as
+// long as the call lasts, and the borrow checker keeps the ones that are written apart.
+
+/// Reads a text into the table, with `used` nodes in use.
+pub fn read(table: &mut [u32], used: usize, stack: &mut [u32], text: &[u8]) -> Numbers {
+    numbers(|answer| unsafe {
+        raw::lazvorn_read(
+            table.as_mut_ptr(),
+            table.len(),
+            used,
+            stack.as_mut_ptr(),
+            stack.len(),
+            text.as_ptr(),
+            text.len(),
+            answer,
+        )
+    })
+}
+
+/// Writes the tree of `node` as text.
+pub fn write(
+    table: &[u32],
+    used: usize,
+    stack: &mut [u32],
+    node: usize,
+    out: &mut [u8],
+) -> Numbers {
+    numbers(|answer| unsafe {
+        raw::lazvorn_write(
+            table.as_ptr(),
+            table.len(),
+            used,
+            stack.as_mut_ptr(),
+            stack.len(),
+            node,
+            out.as_mut_ptr(),
+            out.len(),
+            answer,
+        )
+    })
+}
+
+/// Translates a rule into the table.
+pub fn translate(table: &mut [u32], used: usize, stack: &mut [u32], bytes: &[u8]) -> Numbers {
+    numbers(|answer| unsafe {
+        raw::lazvorn_translate(
+            table.as_mut_ptr(),
+            table.len(),
+            used,
+            stack.as_mut_ptr(),
+            stack.len(),
+            bytes.as_ptr(),
+            bytes.len(),
+            answer,
+        )
+    })
+}
+
+/// Applies the node `function` to the node `argument` in at most `limit` steps.
+pub fn apply(
+    table: &mut [u32],
+    used: usize,
+    stack: &mut [u32],
+    function: usize,
+    argument: usize,
+    limit: usize,
+) -> Numbers {
+    numbers(|answer| unsafe {
+        raw::lazvorn_apply(
+            table.as_mut_ptr(),
+            table.len(),
+            used,
+            stack.as_mut_ptr(),
+            stack.len(),
+            function,
+            argument,
+            limit,
+            answer,
+        )
+    })
+}
+
+/// Labels the rule at node `rule` with the tree of node `label`.
+pub fn label(table: &mut [u32], used: usize, rule: usize, label: usize) -> Numbers {
+    numbers(|answer| unsafe {
+        raw::lazvorn_label(table.as_mut_ptr(), table.len(), used, rule, label, answer)
+    })
+}
+
+/// Runs a packet with the table taken as empty, and writes the outcome's text to `out`.
+pub fn run(table: &mut [u32], stack: &mut [u32], out: &mut [u8], packet: &[u8]) -> Numbers {
+    numbers(|answer| unsafe {
+        raw::lazvorn_run(
+            table.as_mut_ptr(),
+            table.len(),
+            stack.as_mut_ptr(),
+            stack.len(),
+            out.as_mut_ptr(),
+            out.len(),
+            packet.as_ptr(),
+            packet.len(),
+            answer,
+        )
+    })
+}

@@ -1,0 +1,274 @@
+//! Nothing checks the declarations in `src/lib.rs` against the library. These tests call each
+//! function with lengths and numbers that all differ, once with just enough of each and once with
+//! one too few of each, so that an argument in another's place, or a length that is lost, shows.
+
+use lazvorn::{Numbers, BROKEN, FRAMES, LIMITS, NODE, NODES, OUT, PACKET, RULE, STEPS, TEXT};
+
+/// Fills memory that is to be left as found, or overwritten.
+const NOISE: u32 = 0xdead_beef;
+const BYTE: u8 = 0xa5;
+
+/// A table with three nodes in use, leaf, stem and fork of these, and `words` lent in all.
+fn table(words: usize) -> Vec<u32> {
+    let mut table = vec![NOISE; words];
+    table[..6].copy_from_slice(&[0, 0, 1, 0, 1, 2]);
+    table
+}
+
+/// The table and the stack of a call lie inside larger ones, so that a call that writes past a
+/// length shows.
+struct Lent {
+    table: Vec<u32>,
+    stack: Vec<u32>,
+    out: Vec<u8>,
+}
+
+const BEYOND: usize = 9;
+
+impl Lent {
+    fn new(words: usize, stack: usize, out: usize) -> Self {
+        Lent {
+            table: table(words + BEYOND),
+            stack: vec![NOISE; stack + BEYOND],
+            out: vec![BYTE; out + BEYOND],
+        }
+    }
+
+    fn parts(&mut self) -> (&mut [u32], &mut [u32], &mut [u8]) {
+        let (t, s, o) = (
+            self.table.len() - BEYOND,
+            self.stack.len() - BEYOND,
+            self.out.len() - BEYOND,
+        );
+        (
+            &mut self.table[..t],
+            &mut self.stack[..s],
+            &mut self.out[..o],
+        )
+    }
+
+    fn nothing_beyond(&self) {
+        assert!(self.table[self.table.len() - BEYOND..]
+            .iter()
+            .all(|w| *w == NOISE));
+        assert!(self.stack[self.stack.len() - BEYOND..]
+            .iter()
+            .all(|w| *w == NOISE));
+        assert!(self.out[self.out.len() - BEYOND..]
+            .iter()
+            .all(|b| *b == BYTE));
+    }
+
+    fn stack_is_zero(&self) {
+        assert!(self.stack[..self.stack.len() - BEYOND]
+            .iter()
+            .all(|w| *w == 0));
+    }
+}
+
+fn refused(refusal: usize, used: usize) -> Numbers {
+    Numbers {
+        refusal,
+        used,
+        ..Numbers::default()
+    }
+}
+
+#[test]
+fn read() {
+    let call = |words, stack, used, text: &[u8]| {
+        let mut lent = Lent::new(words, stack, 0);
+        let (t, s, _) = lent.parts();
+        let numbers = lazvorn::read(t, used, s, text);
+        lent.nothing_beyond();
+        (numbers, lent)
+    };
+    let text = &b"210100101"[..5];
+    let (numbers, lent) = call(16, 7, 3, text);
+    assert_eq!(
+        numbers,
+        Numbers {
+            node: 7,
+            used: 8,
+            ..Numbers::default()
+        }
+    );
+    assert_eq!(
+        lent.table[..16],
+        [0, 0, 1, 0, 1, 2, 0, 0, 4, 0, 0, 0, 6, 0, 7, 5]
+    );
+    lent.stack_is_zero();
+    assert_eq!(call(15, 7, 3, text).0, refused(NODES, 3));
+    assert_eq!(call(16, 5, 3, text).0, refused(FRAMES, 3));
+    assert_eq!(call(16, 7, 3, &b"210100101"[..4]).0, refused(TEXT, 3));
+    assert_eq!(call(16, 7, 4, text).0, refused(BROKEN, 4));
+    assert_eq!(call(16, 7, 9, text).0, refused(LIMITS, 9));
+    assert_eq!(call(16, 7, usize::MAX, text).0, refused(LIMITS, usize::MAX));
+}
+
+#[test]
+fn write() {
+    let call = |words, stack, used, node, out| {
+        let mut lent = Lent::new(words, stack, out);
+        let (t, s, o) = lent.parts();
+        let numbers = lazvorn::write(t, used, s, node, o);
+        lent.nothing_beyond();
+        assert_eq!(lent.table, table(words + BEYOND));
+        (numbers, lent)
+    };
+    let (numbers, lent) = call(11, 4, 3, 2, 6);
+    assert_eq!(
+        numbers,
+        Numbers {
+            used: 3,
+            digits: 4,
+            ..Numbers::default()
+        }
+    );
+    assert_eq!(lent.out[..6], [b'2', b'0', b'1', b'0', BYTE, BYTE]);
+    lent.stack_is_zero();
+    assert_eq!(call(11, 4, 3, 1, 6).0.digits, 2);
+    assert_eq!(call(11, 4, 3, 2, 3).0, refused(OUT, 3));
+    assert_eq!(call(11, 2, 3, 2, 6).0, refused(FRAMES, 3));
+    assert_eq!(call(11, 4, 3, 3, 6).0, refused(NODE, 3));
+    assert_eq!(call(11, 4, 5, 2, 6).0, refused(BROKEN, 5));
+    assert_eq!(call(11, 4, 6, 2, 6).0, refused(LIMITS, 6));
+    assert_eq!(call(11, 4, 3, 2, 65_536).0, refused(LIMITS, 3));
+    assert_eq!(call(11, 4, 3, usize::MAX, 6).0, refused(NODE, 3));
+}
+
+#[test]
+fn translate() {
+    let call = |words, stack, used, bytes: &[u8]| {
+        let mut lent = Lent::new(words, stack, 0);
+        let (t, s, _) = lent.parts();
+        let numbers = lazvorn::translate(t, used, s, bytes);
+        lent.nothing_beyond();
+        (numbers, lent)
+    };
+    // The rule 02 00, of three nodes, wants six frames.
+    let bytes = &[2, 0, 0, 0][..2];
+    let (numbers, lent) = call(13, 20, 3, bytes);
+    assert_eq!(
+        numbers,
+        Numbers {
+            node: 5,
+            used: 6,
+            ..Numbers::default()
+        }
+    );
+    assert_eq!(
+        lent.table[..13],
+        [0, 0, 1, 0, 1, 2, 0, 0, 0, 0, 5, 4, NOISE]
+    );
+    lent.stack_is_zero();
+    assert_eq!(call(11, 20, 3, bytes).0, refused(NODES, 3));
+    assert_eq!(call(13, 17, 3, bytes).0, refused(FRAMES, 3));
+    assert_eq!(call(13, 20, 3, &[2, 0, 0][..3]).0, refused(RULE, 3));
+    assert_eq!(call(13, 20, 3, &bytes[..1]).0, refused(RULE, 3));
+    assert_eq!(call(13, 20, 5, bytes).0, refused(BROKEN, 5));
+    assert_eq!(call(13, 20, 7, bytes).0, refused(LIMITS, 7));
+}
+
+#[test]
+fn apply() {
+    let call = |words, stack, used, function, argument, limit| {
+        let mut lent = Lent::new(words, stack, 0);
+        let (t, s, _) = lent.parts();
+        let numbers = lazvorn::apply(t, used, s, function, argument, limit);
+        lent.nothing_beyond();
+        (numbers, lent)
+    };
+    // The stem on the fork makes the fork of the leaf and it.
+    let (numbers, lent) = call(9, 5, 3, 1, 2, 1);
+    assert_eq!(
+        numbers,
+        Numbers {
+            node: 3,
+            used: 4,
+            steps: 1,
+            ..Numbers::default()
+        }
+    );
+    assert_eq!(lent.table[..9], [0, 0, 1, 0, 1, 2, 1, 3, NOISE]);
+    lent.stack_is_zero();
+    // The fork of the leaf and the stem drops the leaf it is applied to.
+    let dropped = Numbers {
+        node: 1,
+        used: 3,
+        steps: 1,
+        ..Numbers::default()
+    };
+    assert_eq!(call(9, 5, 3, 2, 0, 1).0, dropped);
+    assert_eq!(call(9, 5, 3, 1, 2, 0).0, refused(STEPS, 3));
+    assert_eq!(call(7, 5, 3, 1, 2, 1).0, refused(NODES, 3));
+    assert_eq!(call(9, 5, 3, 3, 2, 1).0, refused(NODE, 3));
+    assert_eq!(call(9, 5, 3, 1, 3, 1).0, refused(NODE, 3));
+    assert_eq!(call(9, 5, 3, 1, 2, 1_000_001).0, refused(LIMITS, 3));
+    assert_eq!(call(9, 5, 4, 1, 2, 1).0, refused(BROKEN, 4));
+    assert_eq!(call(9, 65_537, 3, 1, 2, 1).0, refused(LIMITS, 3));
+}
+
+#[test]
+fn label() {
+    let call = |words, used, rule, label| {
+        let mut lent = Lent::new(words, 0, 0);
+        let (t, _, _) = lent.parts();
+        let numbers = lazvorn::label(t, used, rule, label);
+        lent.nothing_beyond();
+        (numbers, lent)
+    };
+    let (numbers, lent) = call(21, 3, 2, 1);
+    assert_eq!(
+        numbers,
+        Numbers {
+            node: 9,
+            used: 10,
+            ..Numbers::default()
+        }
+    );
+    assert_eq!(
+        lent.table[..21],
+        [0, 0, 1, 0, 1, 2, 0, 0, 4, 0, 4, 5, 3, 0, 7, 6, 2, 0, 9, 8, NOISE]
+    );
+    assert_eq!(call(19, 3, 2, 1).0, refused(NODES, 3));
+    assert_eq!(call(21, 3, 3, 1).0, refused(NODE, 3));
+    assert_eq!(call(21, 3, 2, 3).0, refused(NODE, 3));
+    assert_eq!(call(21, 4, 2, 1).0, refused(BROKEN, 4));
+    assert_eq!(call(21, 11, 2, 1).0, refused(LIMITS, 11));
+}
+
+#[test]
+fn run() {
+    let call = |words, stack, out, packet: &[u8]| {
+        let mut lent = Lent::new(words, stack, out);
+        let (t, s, o) = lent.parts();
+        let numbers = lazvorn::run(t, s, o, packet);
+        lent.nothing_beyond();
+        (numbers, lent)
+    };
+    // The paper's packet: λx. x x on the leaf gives 10 in 10 steps and 18 nodes.
+    let bytes = b"\x01\x00\x06\x02\x01\x03\x00\x03\x00\x02\x00\x0100";
+    let packet = &bytes[..13];
+    let (numbers, lent) = call(37, 73, 3, packet);
+    assert_eq!(
+        numbers,
+        Numbers {
+            used: 18,
+            steps: 10,
+            digits: 2,
+            ..Numbers::default()
+        }
+    );
+    assert_eq!(lent.out[..3], [b'1', b'0', BYTE]);
+    assert_eq!(lent.table[36], NOISE);
+    lent.stack_is_zero();
+    assert_eq!(call(35, 73, 3, packet).0, refused(NODES, 0));
+    assert_eq!(call(37, 71, 3, packet).0, refused(FRAMES, 0));
+    assert_eq!(call(37, 73, 1, packet).0, refused(OUT, 0));
+    assert_eq!(call(37, 73, 3, &bytes[..14]).0, refused(PACKET, 0));
+    assert_eq!(call(37, 73, 3, &bytes[..12]).0, refused(PACKET, 0));
+    assert_eq!(call(131_073, 73, 3, packet).0, refused(LIMITS, 0));
+    assert_eq!(call(37, 65_537, 3, packet).0, refused(LIMITS, 0));
+    assert_eq!(call(37, 73, 65_536, packet).0, refused(LIMITS, 0));
+}

@@ -1,0 +1,625 @@
+//! A plain model of document 01's operations, written from the paper to be read beside it. It says
+//! what each call answers and what it leaves in every word and byte it was lent. Trees are shared
+//! pointers, terms and applications are gone through by recursion, and nothing is fast.
+//!
+//! Whoever calls it gives the thread a large stack: recursion goes as deep as trees and frames do.
+
+use std::rc::Rc;
+
+/// All that a call may be lent.
+#[derive(Clone, Debug, PartialEq, Eq)]
+pub struct Memory {
+    pub table: Vec<u32>,
+    pub stack: Vec<u32>,
+    pub out: Vec<u8>,
+}
+
+/// Refusal, node, used, steps and digits.
+pub type Answer = [usize; 5];
+
+/// A refusal's number.
+type Refusal = usize;
+
+impl Memory {
+    fn capacity(&self) -> usize {
+        self.table.len() / 2
+    }
+
+    fn frames(&self) -> usize {
+        self.stack.len() / 3
+    }
+
+    /// The checks for 1 and 2 that the operations share.
+    fn check(&self, used: usize) -> Result<(), Refusal> {
+        if self.table.len() > 131_072 || self.stack.len() > 65_536 || used > self.capacity() {
+            return Err(1);
+        }
+        let broken = (0..used).any(|i| {
+            let (a, b) = (self.table[2 * i], self.table[2 * i + 1]);
+            (a == 0 && b != 0) || a as usize > i || b as usize > i
+        });
+        if broken {
+            Err(2)
+        } else {
+            Ok(())
+        }
+    }
+
+    /// What 7 to 10 do to the nodes from `used` up to `end`, and to the stack.
+    fn undo(&mut self, used: usize, end: usize) {
+        self.table[2 * used..2 * end].fill(0);
+        self.stack.fill(0);
+    }
+
+    fn put(&mut self, node: usize, first: usize, second: usize) {
+        self.table[2 * node] = first as u32;
+        self.table[2 * node + 1] = second as u32;
+    }
+}
+
+fn refused(number: Refusal, used: usize) -> Answer {
+    [number, 0, used, 0, 0]
+}
+
+// ---- trees and their text
+
+/// A tree, with its node's number where it stands in a table.
+pub struct Tree {
+    node: usize,
+    shape: Shape,
+}
+
+enum Shape {
+    Leaf,
+    Stem(Rc<Tree>),
+    Fork(Rc<Tree>, Rc<Tree>),
+}
+
+fn tree(node: usize, shape: Shape) -> Rc<Tree> {
+    Rc::new(Tree { node, shape })
+}
+
+/// The trees of all used nodes of a table that passed the checks.
+fn trees(table: &[u32], used: usize) -> Vec<Rc<Tree>> {
+    let mut found: Vec<Rc<Tree>> = Vec::with_capacity(used);
+    for i in 0..used {
+        let branch = |word: u32| found[word as usize - 1].clone();
+        let shape = match (table[2 * i], table[2 * i + 1]) {
+            (0, _) => Shape::Leaf,
+            (p, 0) => Shape::Stem(branch(p)),
+            (p, q) => Shape::Fork(branch(p), branch(q)),
+        };
+        found.push(tree(i, shape));
+    }
+    found
+}
+
+/// A whole text, from the digit at `at` on: its tree and the place after it.
+fn parse(text: &[u8], at: usize) -> Option<(Rc<Tree>, usize)> {
+    match text.get(at)? {
+        b'0' => Some((tree(0, Shape::Leaf), at + 1)),
+        b'1' => {
+            let (p, end) = parse(text, at + 1)?;
+            Some((tree(0, Shape::Stem(p)), end))
+        }
+        b'2' => {
+            let (p, middle) = parse(text, at + 1)?;
+            let (q, end) = parse(text, middle)?;
+            Some((tree(0, Shape::Fork(p, q)), end))
+        }
+        _ => None,
+    }
+}
+
+/// The tree of a text that Read takes.
+fn readable(text: &[u8]) -> Option<Rc<Tree>> {
+    if text.len() > 65_535 {
+        return None;
+    }
+    let (tree, end) = parse(text, 0)?;
+    (end == text.len()).then_some(tree)
+}
+
+/// The most trees pending while a tree's digits are taken last to first, where `before` are pending
+/// already: its second branch comes first and is pending while the first branch comes.
+fn pending(tree: &Tree, before: usize) -> usize {
+    match &tree.shape {
+        Shape::Leaf => before + 1,
+        Shape::Stem(p) => pending(p, before),
+        Shape::Fork(p, q) => pending(q, before).max(pending(p, before + 1)),
+    }
+}
+
+/// Lays a tree whose text has its digit 0 at `place`: the digit at p stands at node `last` - p.
+/// Gives the place after the tree.
+fn lay(memory: &mut Memory, tree: &Tree, last: usize, place: usize) -> usize {
+    let word = |p: usize| last - p + 1;
+    let (first, second, end) = match &tree.shape {
+        Shape::Leaf => (0, 0, place + 1),
+        Shape::Stem(p) => (word(place + 1), 0, lay(memory, p, last, place + 1)),
+        Shape::Fork(p, q) => {
+            let middle = lay(memory, p, last, place + 1);
+            (word(place + 1), word(middle), lay(memory, q, last, middle))
+        }
+    };
+    memory.put(last - place, first, second);
+    end
+}
+
+/// Lays a tree of n nodes as Read does.
+fn laid(memory: &mut Memory, used: usize, tree: &Tree, n: usize) -> Answer {
+    memory.stack.fill(0);
+    lay(memory, tree, used + n - 1, 0);
+    [0, used + n - 1, used + n, 0, 0]
+}
+
+pub fn read(memory: &mut Memory, used: usize, text: &[u8]) -> Answer {
+    if let Err(number) = memory.check(used) {
+        return refused(number, used);
+    }
+    let Some(tree) = readable(text) else {
+        return refused(4, used);
+    };
+    let number = if text.len() > memory.capacity() - used {
+        8
+    } else if memory.frames() < pending(&tree, 0) {
+        9
+    } else {
+        return laid(memory, used, &tree, text.len());
+    };
+    memory.stack.fill(0);
+    refused(number, used)
+}
+
+/// A tree's digits into `text`, while `held` forks wait for their second branch.
+fn digits(
+    tree: &Tree,
+    held: usize,
+    frames: usize,
+    room: usize,
+    text: &mut Vec<u8>,
+) -> Result<(), Refusal> {
+    if text.len() == room {
+        return Err(10);
+    }
+    match &tree.shape {
+        Shape::Leaf => {
+            text.push(b'0');
+            Ok(())
+        }
+        Shape::Stem(p) => {
+            text.push(b'1');
+            digits(p, held, frames, room, text)
+        }
+        Shape::Fork(p, q) => {
+            if held == frames {
+                return Err(9);
+            }
+            text.push(b'2');
+            digits(p, held + 1, frames, room, text)?;
+            digits(q, held, frames, room, text)
+        }
+    }
+}
+
+pub fn write(memory: &mut Memory, used: usize, node: usize) -> Answer {
+    if memory.out.len() > 65_535 {
+        return refused(1, used);
+    }
+    if let Err(number) = memory.check(used) {
+        return refused(number, used);
+    }
+    if node >= used {
+        return refused(3, used);
+    }
+    let tree = trees(&memory.table, used)[node].clone();
+    let mut text = Vec::new();
+    let written = digits(&tree, 0, memory.frames(), memory.out.len(), &mut text);
+    memory.stack.fill(0);
+    match written {
+        Err(number) => refused(number, used),
+        Ok(()) => {
+            memory.out[..text.len()].copy_from_slice(&text);
+            [0, 0, used, 0, text.len()]
+        }
+    }
+}
+
+// ---- rules
+
+enum Term {
+    Leaf,
+    Apply(Rc<Term>, Rc<Term>),
+    Abstract(Rc<Term>),
+    Variable(usize),
+}
+
+/// The term at `at` under `around` abstractions, and the place after it.
+fn term(bytes: &[u8], at: usize, around: usize) -> Option<(Term, usize)> {
+    match bytes.get(at)? {
+        0 => Some((Term::Leaf, at + 1)),
+        1 => {
+            let (function, middle) = term(bytes, at + 1, around)?;
+            let (argument, end) = term(bytes, middle, around)?;
+            Some((Term::Apply(Rc::new(function), Rc::new(argument)), end))
+        }
+        2 => {
+            if around == 16 {
+                return None;
+            }
+            let (body, end) = term(bytes, at + 1, around + 1)?;
+            Some((Term::Abstract(Rc::new(body)), end))
+        }
+        3 => {
+            let between = usize::from(*bytes.get(at + 1)?);
+            (between < around).then_some((Term::Variable(between), at + 2))
+        }
+        _ => None,
+    }
+}
+
+fn rule(bytes: &[u8]) -> Option<Term> {
+    if bytes.len() > 4_096 || bytes.first() != Some(&2) {
+        return None;
+    }
+    let (rule, end) = term(bytes, 0, 0)?;
+    (end == bytes.len()).then_some(rule)
+}
+
+/// The leaves and variables of a term once its abstractions are translated, and how many of them are
+/// the variable of each abstraction around it, the nearest first: "a term of k leaves and variables,
+/// m of them x, becomes one of 5k - 2 + 2m".
+fn size(term: &Term) -> (u128, Vec<u128>) {
+    match term {
+        Term::Leaf => (1, Vec::new()),
+        Term::Variable(i) => {
+            let mut of = vec![0; *i];
+            of.push(1);
+            (1, of)
+        }
+        Term::Apply(f, a) => {
+            let ((k, mut of), (l, more)) = (size(f), size(a));
+            if of.len() < more.len() {
+                of.resize(more.len(), 0);
+            }
+            of.iter_mut().zip(more).for_each(|(m, n)| *m += n);
+            (k + l, of)
+        }
+        Term::Abstract(body) => {
+            let (k, mut of) = size(body);
+            let m = if of.is_empty() { 0 } else { of.remove(0) };
+            (5 * k - 2 + 2 * m, of)
+        }
+    }
+}
+
+fn leaf() -> Rc<Term> {
+    Rc::new(Term::Leaf)
+}
+
+fn apply_term(f: Rc<Term>, a: Rc<Term>) -> Rc<Term> {
+    Rc::new(Term::Apply(f, a))
+}
+
+/// Ka.
+fn constant(a: Rc<Term>) -> Rc<Term> {
+    apply_term(apply_term(leaf(), leaf()), a)
+}
+
+/// Δ(Δa)b.
+fn spread_of(a: Rc<Term>, b: Rc<Term>) -> Rc<Term> {
+    apply_term(apply_term(leaf(), apply_term(leaf(), a)), b)
+}
+
+/// The term with each abstraction translated, inner ones first.
+fn translated(term: &Term) -> Rc<Term> {
+    match term {
+        Term::Leaf => leaf(),
+        Term::Variable(i) => Rc::new(Term::Variable(*i)),
+        Term::Apply(f, a) => apply_term(translated(f), translated(a)),
+        Term::Abstract(body) => abstracted(&translated(body)),
+    }
+}
+
+/// The nearest abstraction's variable abstracted from a term without abstractions.
+fn abstracted(term: &Term) -> Rc<Term> {
+    match term {
+        Term::Variable(0) => spread_of(leaf(), apply_term(leaf(), leaf())),
+        Term::Variable(i) => constant(Rc::new(Term::Variable(i - 1))),
+        Term::Leaf => constant(leaf()),
+        Term::Apply(u, v) => spread_of(abstracted(v), abstracted(u)),
+        Term::Abstract(_) => unreachable!("inner abstractions are translated first"),
+    }
+}
+
+/// The tree of a closed term in which no application needs more than the first two rules.
+fn tree_of(term: &Term) -> Rc<Tree> {
+    match term {
+        Term::Leaf => tree(0, Shape::Leaf),
+        Term::Apply(f, a) => {
+            let a = tree_of(a);
+            match &tree_of(f).shape {
+                Shape::Leaf => tree(0, Shape::Stem(a)),
+                Shape::Stem(p) => tree(0, Shape::Fork(p.clone(), a)),
+                Shape::Fork(..) => unreachable!("nothing is left to evaluate"),
+            }
+        }
+        _ => unreachable!("a rule is closed"),
+    }
+}
+
+/// The text of a rule's tree, or none where the bytes are no rule or the tree has more than `most`
+/// nodes.
+pub fn rule_text(bytes: &[u8], most: usize) -> Option<Vec<u8>> {
+    let rule = rule(bytes)?;
+    if size(&rule).0 > most as u128 {
+        return None;
+    }
+    let mut text = Vec::new();
+    digits(
+        &tree_of(&translated(&rule)),
+        0,
+        usize::MAX,
+        usize::MAX,
+        &mut text,
+    )
+    .ok()?;
+    Some(text)
+}
+
+pub fn translate(memory: &mut Memory, used: usize, bytes: &[u8]) -> Answer {
+    if let Err(number) = memory.check(used) {
+        return refused(number, used);
+    }
+    let Some(rule) = rule(bytes) else {
+        return refused(5, used);
+    };
+    let (n, _) = size(&rule);
+    let number = if n > (memory.capacity() - used) as u128 {
+        8
+    } else if (memory.frames() as u128) < 2 * n {
+        9
+    } else {
+        return laid(memory, used, &tree_of(&translated(&rule)), n as usize);
+    };
+    memory.stack.fill(0);
+    refused(number, used)
+}
+
+// ---- application
+
+/// What an application is counted against, and the words of the nodes it has made.
+struct Machine {
+    capacity: usize,
+    frames: usize,
+    limit: usize,
+    used: usize,
+    steps: usize,
+    made: Vec<(usize, usize)>,
+}
+
+impl Machine {
+    /// One use of a rule: 7, then 8 if it needs a node, then 9 if it needs a frame beside `held`.
+    fn step(&mut self, node: bool, frame: bool, held: usize) -> Result<(), Refusal> {
+        if self.steps == self.limit {
+            return Err(7);
+        }
+        if node && self.used + self.made.len() == self.capacity {
+            return Err(8);
+        }
+        if frame && held == self.frames {
+            return Err(9);
+        }
+        self.steps += 1;
+        Ok(())
+    }
+
+    fn make(&mut self, shape: Shape) -> Rc<Tree> {
+        let node = self.used + self.made.len();
+        self.made.push(match &shape {
+            Shape::Leaf => (0, 0),
+            Shape::Stem(p) => (p.node + 1, 0),
+            Shape::Fork(p, q) => (p.node + 1, q.node + 1),
+        });
+        tree(node, shape)
+    }
+
+    /// f applied to n while `held` frames are held. The last application of spread and of triage
+    /// holds none, so it takes another turn of the loop.
+    fn apply(&mut self, f: Rc<Tree>, n: Rc<Tree>, held: usize) -> Result<Rc<Tree>, Refusal> {
+        let (mut f, mut n) = (f, n);
+        loop {
+            let (next, argument) = match &f.shape {
+                Shape::Leaf => {
+                    self.step(true, false, held)?;
+                    return Ok(self.make(Shape::Stem(n)));
+                }
+                Shape::Stem(p) => {
+                    self.step(true, false, held)?;
+                    return Ok(self.make(Shape::Fork(p.clone(), n)));
+                }
+                Shape::Fork(first, y) => match &first.shape {
+                    Shape::Leaf => {
+                        self.step(false, false, held)?;
+                        return Ok(y.clone());
+                    }
+                    Shape::Stem(p) => {
+                        self.step(false, true, held)?;
+                        let v = self.apply(y.clone(), n.clone(), held + 1)?;
+                        let w = self.apply(p.clone(), n, held + 1)?;
+                        (v, w)
+                    }
+                    Shape::Fork(p, q) => {
+                        self.step(false, true, held)?;
+                        (self.apply(n, p.clone(), held + 1)?, q.clone())
+                    }
+                },
+            };
+            (f, n) = (next, argument);
+        }
+    }
+}
+
+pub fn apply(
+    memory: &mut Memory,
+    used: usize,
+    function: usize,
+    argument: usize,
+    limit: usize,
+) -> Answer {
+    if limit > 1_000_000 {
+        return refused(1, used);
+    }
+    if let Err(number) = memory.check(used) {
+        return refused(number, used);
+    }
+    if function >= used || argument >= used {
+        return refused(3, used);
+    }
+    let mut machine = Machine {
+        capacity: memory.capacity(),
+        frames: memory.frames(),
+        limit,
+        used,
+        steps: 0,
+        made: Vec::new(),
+    };
+    let nodes = trees(&memory.table, used);
+    let result = machine.apply(nodes[function].clone(), nodes[argument].clone(), 0);
+    let end = used + machine.made.len();
+    memory.undo(used, end);
+    match result {
+        Err(number) => refused(number, used),
+        Ok(tree) => {
+            for (i, &(first, second)) in machine.made.iter().enumerate() {
+                memory.put(used + i, first, second);
+            }
+            [0, tree.node, end, machine.steps, 0]
+        }
+    }
+}
+
+// ---- labels
+
+/// Label has no stack: the memory's stack and out bytes are not lent to it.
+pub fn label(memory: &mut Memory, used: usize, rule: usize, label: usize) -> Answer {
+    let lent = Memory {
+        table: std::mem::take(&mut memory.table),
+        stack: Vec::new(),
+        out: Vec::new(),
+    };
+    let checked = lent.check(used);
+    memory.table = lent.table;
+    if let Err(number) = checked {
+        return refused(number, used);
+    }
+    if rule >= used || label >= used {
+        return refused(3, used);
+    }
+    if memory.capacity() - used < 7 {
+        return refused(8, used);
+    }
+    memory.put(used, 0, 0);
+    memory.put(used + 1, used + 1, 0);
+    memory.put(used + 2, used + 1, used + 2);
+    memory.put(used + 3, rule + 1, 0);
+    memory.put(used + 4, used + 4, used + 3);
+    memory.put(used + 5, label + 1, 0);
+    memory.put(used + 6, used + 6, used + 5);
+    [0, used + 6, used + 7, 0, 0]
+}
+
+// ---- packets
+
+struct Packet<'a> {
+    rule: &'a [u8],
+    arguments: Vec<&'a [u8]>,
+    limit: usize,
+}
+
+/// The field at `at` if its tag is `tag`: its value and the place after it.
+fn field(packet: &[u8], at: usize, tag: u8) -> Option<(&[u8], usize)> {
+    let head = packet.get(at..at + 3)?;
+    let start = at + 3;
+    let end = start + usize::from(head[1]) * 256 + usize::from(head[2]);
+    let value = packet.get(start..end)?;
+    (head[0] == tag).then_some((value, end))
+}
+
+fn packet_of(packet: &[u8]) -> Option<Packet<'_>> {
+    if packet.len() > 16_384 {
+        return None;
+    }
+    let (rule, mut at) = field(packet, 0, 1)?;
+    let mut arguments = Vec::new();
+    while let Some((text, end)) = field(packet, at, 2) {
+        arguments.push(text);
+        at = end;
+    }
+    let mut limit = 10_000;
+    if let Some((value, end)) = field(packet, at, 3) {
+        let [a, b, c, d] = value else { return None };
+        limit = [a, b, c, d]
+            .iter()
+            .fold(0, |n, byte| n * 256 + usize::from(**byte));
+        at = end;
+    }
+    (at == packet.len() && arguments.len() <= 8 && limit <= 1_000_000).then_some(Packet {
+        rule,
+        arguments,
+        limit,
+    })
+}
+
+pub fn run(memory: &mut Memory, packet: &[u8]) -> Answer {
+    if memory.table.len() > 131_072 || memory.stack.len() > 65_536 || memory.out.len() > 65_535 {
+        return refused(1, 0);
+    }
+    let Some(packet) = packet_of(packet) else {
+        return refused(6, 0);
+    };
+    if rule(packet.rule).is_none() {
+        return refused(5, 0);
+    }
+    if packet.arguments.iter().any(|text| readable(text).is_none()) {
+        return refused(4, 0);
+    }
+    let mut used = 0;
+    match stages(memory, &packet, &mut used) {
+        Ok(answer) => answer,
+        Err(number) => {
+            memory.undo(0, used);
+            refused(number, 0)
+        }
+    }
+}
+
+/// The operations in a packet's order. `used` is the count of nodes made by those that succeeded.
+fn stages(memory: &mut Memory, packet: &Packet, used: &mut usize) -> Result<Answer, Refusal> {
+    let mut node = taken(translate(memory, 0, packet.rule), used)?[1];
+    let mut arguments = Vec::new();
+    for text in &packet.arguments {
+        arguments.push(taken(read(memory, *used, text), used)?[1]);
+    }
+    let mut steps = 0;
+    for argument in arguments {
+        let applied = taken(
+            apply(memory, *used, node, argument, packet.limit - steps),
+            used,
+        )?;
+        node = applied[1];
+        steps += applied[3];
+    }
+    let written = taken(write(memory, *used, node), used)?;
+    Ok([0, 0, *used, steps, written[4]])
+}
+
+fn taken(answer: Answer, used: &mut usize) -> Result<Answer, Refusal> {
+    match answer[0] {
+        0 => {
+            *used = answer[2];
+            Ok(answer)
+        }
+        number => Err(number),
+    }
+}
