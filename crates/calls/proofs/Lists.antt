@@ -17,10 +17,10 @@ use Rattle.calculus.proofs.Demand3.{demand-3}
 use Rattle.table.specs.Nodes.{Table, Sound, treeAt}
 use Rattle.table.proofs.Trees.{kept-tree}
 use Rattle.table.proofs.Making.{Has, stays}
-use Rattle.text.specs.Text.{treeOf}
-use Rattle.text.proofs.Reading.{read-gives}
-use Rattle.term.proofs.Translates.{translate-gives}
-use Rattle.machine.proofs.Follows.{apply-follows}
+use Rattle.ternary.specs.Text.{treeOf}
+use Rattle.ternary.proofs.Reading.{read-gives}
+use Rattle.translation.proofs.Translates.{translate-gives}
+use Rattle.applying.proofs.Follows.{apply-follows}
 use Rattle.calls.specs.Calls.{Call, left, leftBy, Argument, argumentTree, Applied, at-end, applies, Completed, translates, Gave, reads}
 use Rattle.calls.specs.Calls as calls
 use Rattle.calls.proofs.Tables.{left-goes, left-read, left-translate, left-apply, stays-by}

@@ -8,12 +8,12 @@ use Rattle.calculus.specs.Abstraction.{ruleTree}
 use Rattle.table.specs.Outcome.{Outcome, laid, placed}
 use Rattle.table.specs.declared.Made.{Made}
 use Rattle.table.specs.declared.Made.the-variants.{Node}
-use Rattle.text.specs.Text.{text}
-use Rattle.text.specs.Read.{read}
-use Rattle.text.proofs.OneText.{text-read}
-use Rattle.text.proofs.Reading.{read-gives}
-use Rattle.term.specs.Translate.{translate}
-use Rattle.term.proofs.Translates.{Translates}
+use Rattle.ternary.specs.Text.{text}
+use Rattle.ternary.specs.Read.{read}
+use Rattle.ternary.proofs.OneText.{text-read}
+use Rattle.ternary.proofs.Reading.{read-gives}
+use Rattle.translation.specs.Translate.{translate}
+use Rattle.translation.proofs.Translates.{Translates}
 
 -- the stack does not matter to the words that are laid
 same-words : (w : List ℕ) (u : ℕ) (s z : List ℕ) (x : Tree) → laid w u s x .table ≡ laid w u z x .table

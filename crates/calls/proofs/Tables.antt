@@ -14,14 +14,14 @@ use Rattle.table.specs.declared.Made.the-variants as made
 use Rattle.table.proofs.Words.{sound-same}
 use Rattle.table.proofs.Trees.{Kept, kept-refl, kept-trans}
 use Rattle.table.proofs.Making.{Places, Has, has, stays}
-use Rattle.text.specs.Read as text
-use Rattle.text.proofs.Reading.{Reads, read-gives, read-refused}
-use Rattle.term.specs.Translate as term
-use Rattle.term.proofs.Translates.{Translates, translate-gives, translate-refused}
-use Rattle.machine.specs.Apply as machine
-use Rattle.machine.specs.declared.Applied.{Applied as Answer}
-use Rattle.machine.specs.declared.Applied.the-variants as applied
-use Rattle.machine.proofs.Follows.{Follows, apply-follows, apply-refused}
+use Rattle.ternary.specs.Read as text
+use Rattle.ternary.proofs.Reading.{Reads, read-gives, read-refused}
+use Rattle.translation.specs.Translate as term
+use Rattle.translation.proofs.Translates.{Translates, translate-gives, translate-refused}
+use Rattle.applying.specs.Apply as machine
+use Rattle.applying.specs.declared.Applied.{Applied as Answer}
+use Rattle.applying.specs.declared.Applied.the-variants as applied
+use Rattle.applying.proofs.Follows.{Follows, apply-follows, apply-refused}
 use Rattle.calls.specs.Calls.{Call, read, translate, apply, left, leftBy}
 
 -- z has all nodes of t as they were, and is sound where t is

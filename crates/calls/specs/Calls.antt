@@ -9,11 +9,11 @@ use Rattle.table.specs.Nodes.{Table, treeAt}
 use Rattle.table.specs.Outcome.{Outcome}
 use Rattle.table.specs.Refusal.{madeNumbers}
 use Rattle.table.specs.declared.Made.the-variants as made
-use Rattle.machine.specs.declared.Applied.the-variants as applied
-use Rattle.text.specs.Text.{treeOf}
-use Rattle.text.specs.Read as text
-use Rattle.term.specs.Translate as term
-use Rattle.machine.specs.Apply as machine
+use Rattle.applying.specs.declared.Applied.the-variants as applied
+use Rattle.ternary.specs.Text.{treeOf}
+use Rattle.ternary.specs.Read as text
+use Rattle.translation.specs.Translate as term
+use Rattle.applying.specs.Apply as machine
 
 -- A call with all that its caller chooses: the stack's words, and the text, the bytes or the two node numbers and the step limit.
 pub data Call : Type 0 where

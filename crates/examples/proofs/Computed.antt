@@ -7,14 +7,14 @@ use Rattle.calculus.specs.Abstraction as abstraction
 use Rattle.table.specs.Nodes as nodes
 use Rattle.table.specs.Outcome as outcome
 use Rattle.table.specs.Refusal as refusal
-use Rattle.text.specs.Text as text
-use Rattle.text.specs.Read as read
-use Rattle.text.specs.Write as write
-use Rattle.term.specs.Translate as translate
-use Rattle.machine.specs.Machine as machine
-use Rattle.machine.specs.Apply as apply
-use Rattle.packet.specs.Packet as packet
-use Rattle.run.specs.Run as run
+use Rattle.ternary.specs.Text as text
+use Rattle.ternary.specs.Read as read
+use Rattle.ternary.specs.Write as write
+use Rattle.translation.specs.Translate as translate
+use Rattle.applying.specs.Machine as machine
+use Rattle.applying.specs.Apply as apply
+use Rattle.fields.specs.Packet as packet
+use Rattle.running.specs.Run as run
 use Rattle.examples.specs.Rows as examples
 use Rattle.examples.specs.Starred.{Row, rows}
 

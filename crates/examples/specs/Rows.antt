@@ -7,13 +7,13 @@ use Rattle.table.specs.Outcome.{Outcome}
 use Rattle.table.specs.Refusal.{Numbers, number, madeNumbers}
 use Rattle.table.specs.declared.Made.{Made}
 use Rattle.table.specs.declared.Made.the-variants as made
-use Rattle.text.specs.Text.{text}
-use Rattle.text.specs.Read.{read}
-use Rattle.term.specs.Translate.{translate}
-use Rattle.machine.specs.Apply.{apply}
-use Rattle.machine.specs.declared.Applied.{Applied}
-use Rattle.machine.specs.declared.Applied.the-variants as applied
-use Rattle.run.specs.Run as run
+use Rattle.ternary.specs.Text.{text}
+use Rattle.ternary.specs.Read.{read}
+use Rattle.translation.specs.Translate.{translate}
+use Rattle.applying.specs.Apply.{apply}
+use Rattle.applying.specs.declared.Applied.{Applied}
+use Rattle.applying.specs.declared.Applied.the-variants as applied
+use Rattle.running.specs.Run as run
 
 -- digits as the bytes of a text
 abbrev pub ascii : List ℕ → List ℕ

@@ -20,12 +20,12 @@ ghost use mathlib.Core.Path.{_≡_};
 ghost use Prim.Native.Nat.{_+_, _*_, _≤_, _<_};
 ghost use lib.ListN.{length};
 ghost use Rattle.table.specs.Refusal.{number};
+use applying::Applied;
 use libc::STDIN_FILENO;
 use libc::STDOUT_FILENO;
-use machine::Applied;
 use table::Made;
 use table::Refusal;
-use text::Written;
+use ternary::Written;
 
 // The smaller of two numbers.
 fn least(a: usize, b: usize) -> usize
@@ -206,7 +206,13 @@ fn show_written(written: Written, out: &[u8]) {
 }
 
 // Writes a node's tree with ample room.
-fn write_node(table: &[u32], used: usize, stack: &mut [u32], node: usize, out: &mut [u8]) -> Written {
+fn write_node(
+    table: &[u32],
+    used: usize,
+    stack: &mut [u32],
+    node: usize,
+    out: &mut [u8],
+) -> Written {
     let t = least(131072, table.len());
     let s = least(65535, stack.len());
     let o = least(65535, out.len());
@@ -267,14 +273,27 @@ fn read_command(line: &[u8], table: &mut [u32], stack: &mut [u32], out: &mut [u8
     show_made(made, table, stack, out);
 }
 
-fn bytes_command(line: &[u8], table: &mut [u32], stack: &mut [u32], bytes: &mut [u8], out: &mut [u8]) {
+fn bytes_command(
+    line: &[u8],
+    table: &mut [u32],
+    stack: &mut [u32],
+    bytes: &mut [u8],
+    out: &mut [u8],
+) {
     let n = unhex(field(line, 3), bytes);
     let made = read_text(line, &bytes[0..n], table, stack);
     show_made(made, table, stack, out);
 }
 
 // Prints the digits of a node's text, and whether it is the text given.
-fn show_same(table: &[u32], used: usize, stack: &mut [u32], node: usize, text: &[u8], out: &mut [u8]) {
+fn show_same(
+    table: &[u32],
+    used: usize,
+    stack: &mut [u32],
+    node: usize,
+    text: &[u8],
+    out: &mut [u8],
+) {
     let written = write_node(table, used, stack, node, out);
     match written {
         Written::Digits(digits) => {
@@ -290,7 +309,13 @@ fn show_same(table: &[u32], used: usize, stack: &mut [u32], node: usize, text: &
     }
 }
 
-fn repeat_command(line: &[u8], table: &mut [u32], stack: &mut [u32], bytes: &mut [u8], out: &mut [u8]) {
+fn repeat_command(
+    line: &[u8],
+    table: &mut [u32],
+    stack: &mut [u32],
+    bytes: &mut [u8],
+    out: &mut [u8],
+) {
     let n = repeat(bytes, value(field(line, 3)), field(line, 4), field(line, 5));
     let made = read_text(line, &bytes[0..n], table, stack);
     match made {
@@ -318,7 +343,13 @@ fn load(text: &[u8], table: &mut [u32], used: usize, stack: &mut [u32], bytes: &
     text::read(&mut table[0..t], used, &mut stack[0..s], text)
 }
 
-fn write_command(line: &[u8], table: &mut [u32], stack: &mut [u32], bytes: &mut [u8], out: &mut [u8]) {
+fn write_command(
+    line: &[u8],
+    table: &mut [u32],
+    stack: &mut [u32],
+    bytes: &mut [u8],
+    out: &mut [u8],
+) {
     let made = load(field(line, 3), table, 0, stack, bytes);
     match made {
         Made::Node { node, used } => {
@@ -352,7 +383,13 @@ fn share_command(line: &[u8], table: &mut [u32], stack: &mut [u32], out: &mut [u
     let t = least(131072, table.len());
     let s = frame_words(value(field(line, 2)), stack.len());
     let o = least(value(field(line, 3)), out.len());
-    let written = text::write(&table[0..t], used, &mut stack[0..s], less(used, 1), &mut out[0..o]);
+    let written = text::write(
+        &table[0..t],
+        used,
+        &mut stack[0..s],
+        less(used, 1),
+        &mut out[0..o],
+    );
     match written {
         Written::Digits(digits) => {
             show(0);
@@ -362,7 +399,13 @@ fn share_command(line: &[u8], table: &mut [u32], stack: &mut [u32], out: &mut [u
     }
 }
 
-fn translate_command(line: &[u8], table: &mut [u32], stack: &mut [u32], bytes: &mut [u8], out: &mut [u8]) {
+fn translate_command(
+    line: &[u8],
+    table: &mut [u32],
+    stack: &mut [u32],
+    bytes: &mut [u8],
+    out: &mut [u8],
+) {
     let n = unhex(field(line, 3), bytes);
     let t = node_words(value(field(line, 1)), table.len());
     let s = frame_words(value(field(line, 2)), stack.len());
@@ -392,11 +435,17 @@ fn load_all(
     while count < 8 {
         let text = field(line, first + count);
         if text.len() == 0 {
-            return Loaded::Trees { count: count, used: used };
+            return Loaded::Trees {
+                count: count,
+                used: used,
+            };
         }
         let made = load(text, table, used, stack, bytes);
         match made {
-            Made::Node { node, used: used_then } => {
+            Made::Node {
+                node,
+                used: used_then,
+            } => {
                 nodes[count] = node;
                 used = used_then;
                 count += 1;
@@ -404,11 +453,21 @@ fn load_all(
             Made::Refused(refusal) => return Loaded::Refused(refusal),
         }
     }
-    Loaded::Trees { count: count, used: used }
+    Loaded::Trees {
+        count: count,
+        used: used,
+    }
 }
 
 // Applies the first node to the second, that to the third, and so on, under one step limit.
-fn apply_all(table: &mut [u32], used: usize, stack: &mut [u32], nodes: [usize; 8], count: usize, limit: usize) -> Applied {
+fn apply_all(
+    table: &mut [u32],
+    used: usize,
+    stack: &mut [u32],
+    nodes: [usize; 8],
+    count: usize,
+    limit: usize,
+) -> Applied {
     let most = least(count, 8);
     let mut node = nodes[0];
     let mut in_use = used;
@@ -438,15 +497,36 @@ fn apply_all(table: &mut [u32], used: usize, stack: &mut [u32], nodes: [usize; 8
 }
 
 // Applies the trees of a line, with the free nodes, frames and step limit of fields 1 to 3.
-fn apply_loaded(line: &[u8], table: &mut [u32], used: usize, stack: &mut [u32], nodes: [usize; 8], count: usize, out: &mut [u8]) {
+fn apply_loaded(
+    line: &[u8],
+    table: &mut [u32],
+    used: usize,
+    stack: &mut [u32],
+    nodes: [usize; 8],
+    count: usize,
+    out: &mut [u8],
+) {
     let t = node_words(least(used, 65536) + value(field(line, 1)), table.len());
     let s = frame_words(value(field(line, 2)), stack.len());
     let limit = value(field(line, 3));
-    let applied = apply_all(&mut table[0..t], used, &mut stack[0..s], nodes, count, limit);
+    let applied = apply_all(
+        &mut table[0..t],
+        used,
+        &mut stack[0..s],
+        nodes,
+        count,
+        limit,
+    );
     show_applied(applied, used, table, stack, out);
 }
 
-fn apply_command(line: &[u8], table: &mut [u32], stack: &mut [u32], bytes: &mut [u8], out: &mut [u8]) {
+fn apply_command(
+    line: &[u8],
+    table: &mut [u32],
+    stack: &mut [u32],
+    bytes: &mut [u8],
+    out: &mut [u8],
+) {
     let mut nodes = [0usize; 8];
     let loaded = load_all(line, 4, table, stack, bytes, &mut nodes);
     match loaded {
@@ -455,7 +535,13 @@ fn apply_command(line: &[u8], table: &mut [u32], stack: &mut [u32], bytes: &mut 
     }
 }
 
-fn label_command(line: &[u8], table: &mut [u32], stack: &mut [u32], bytes: &mut [u8], out: &mut [u8]) {
+fn label_command(
+    line: &[u8],
+    table: &mut [u32],
+    stack: &mut [u32],
+    bytes: &mut [u8],
+    out: &mut [u8],
+) {
     let mut nodes = [0usize; 8];
     let loaded = load_all(line, 2, table, stack, bytes, &mut nodes);
     match loaded {
@@ -487,7 +573,14 @@ fn fill(line: &[u8], first: usize, table: &mut [u32]) -> usize
 }
 
 // The answer of Read, Translate or Label in a table of given words.
-fn make_in_words(name: u8, table: &mut [u32], used: usize, stack: &mut [u32], a: usize, b: usize) -> Made {
+fn make_in_words(
+    name: u8,
+    table: &mut [u32],
+    used: usize,
+    stack: &mut [u32],
+    a: usize,
+    b: usize,
+) -> Made {
     match name {
         b'r' => text::read(table, used, stack, b"0"),
         b't' => term::translate(table, used, stack, b"\x02\x00"),
@@ -496,7 +589,14 @@ fn make_in_words(name: u8, table: &mut [u32], used: usize, stack: &mut [u32], a:
 }
 
 // Runs an operation in a table of n words.
-fn run_in_words(line: &[u8], name: u8, table: &mut [u32], n: usize, stack: &mut [u32], out: &mut [u8])
+fn run_in_words(
+    line: &[u8],
+    name: u8,
+    table: &mut [u32],
+    n: usize,
+    stack: &mut [u32],
+    out: &mut [u8],
+)
     requires { ⌜ n ≤ length (now table) ⌝ }
 {
     let used = value(field(line, 2));

@@ -6,11 +6,11 @@ use mathlib.Core.List.{List}
 use Rattle.table.specs.Refusal.{Numbers, madeNumbers}
 use Rattle.table.specs.Outcome.{Outcome, whole}
 use Rattle.table.specs.declared.Made.{Made}
-use Rattle.text.specs.Write as write
-use Rattle.text.specs.declared.Written.{Written}
+use Rattle.ternary.specs.Write as write
+use Rattle.ternary.specs.declared.Written.{Written}
 use Rattle.label.specs.Label as label
-use Rattle.run.specs.Run as run
-use Rattle.run.specs.declared.Ran.{Ran}
+use Rattle.running.specs.Run as run
+use Rattle.running.specs.declared.Ran.{Ran}
 use Rattle.ffi.specs.Boundary.{listed, told, Left, left, toldWritten, Labelled, labelled, toldLabel, toldRan}
 
 pub tells : {A : Type 0} (numbers : A → Numbers) {a : A} {l w s : List ℕ} {o : Outcome A}

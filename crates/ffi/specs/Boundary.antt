@@ -3,9 +3,9 @@ use Prim.Native.Nat.{ℕ}
 use mathlib.Core.List.{List, [], _∷_}
 use Rattle.table.specs.Refusal.{Numbers, madeNumbers}
 use Rattle.table.specs.Outcome.{Outcome, whole}
-use Rattle.text.specs.Write as write
+use Rattle.ternary.specs.Write as write
 use Rattle.label.specs.Label as label
-use Rattle.run.specs.Run as run
+use Rattle.running.specs.Run as run
 
 -- the five numbers of an answer, in the order in which they stand in the caller's array
 abbrev pub listed : Numbers → List ℕ

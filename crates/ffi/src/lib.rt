@@ -4,18 +4,18 @@
 ghost use mathlib.Core.Path.{_≡_};
 ghost use Rattle.table.specs.Refusal.{number, refusedNumbers, madeNumbers};
 ghost use Rattle.table.specs.Outcome.{whole};
-ghost use Rattle.text.specs.Read as reading;
-ghost use Rattle.text.specs.Write as writing;
-ghost use Rattle.term.specs.Translate as translating;
-ghost use Rattle.machine.specs.Apply as applying;
+ghost use Rattle.ternary.specs.Read as reading;
+ghost use Rattle.ternary.specs.Write as writing;
+ghost use Rattle.translation.specs.Translate as translating;
+ghost use Rattle.applying.specs.Apply as applying;
 ghost use Rattle.label.specs.Label as labelling;
-ghost use Rattle.run.specs.Run as running;
+ghost use Rattle.running.specs.Run as running;
 ghost use Rattle.ffi.specs.Boundary.{listed, told, left, toldWritten, labelled, toldLabel, toldRan};
-use machine::Applied;
-use run::Ran;
+use applying::Applied;
+use running::Ran;
 use table::Made;
 use table::Refusal;
-use text::Written;
+use ternary::Written;
 
 // A refusal's number.
 fn number(refusal: Refusal) -> usize

@@ -4,11 +4,11 @@ use mathlib.Core.Path.{_≡_, sym, ap, _∙_}
 use mathlib.Core.List.{List}
 use native.Mathlib.Omega.{arith}
 use lib.ListN.{length, drop, length-append}
-use Rattle.text.specs.Text.{text}
-use Rattle.run.specs.Run.{Whole, whole, run}
-use Rattle.run.specs.declared.Ran.{Ran}
-use Rattle.run.specs.declared.Ran.the-variants.{Text}
-use Rattle.run.proofs.Direct.{run-direct}
+use Rattle.ternary.specs.Text.{text}
+use Rattle.running.specs.Run.{Whole, whole, run}
+use Rattle.running.specs.declared.Ran.{Ran}
+use Rattle.running.specs.declared.Ran.the-variants.{Text}
+use Rattle.running.proofs.Direct.{run-direct}
 
 pub text-within : (w s o l : List ℕ) {a : Ran} {z y x : List ℕ} {k u n : ℕ} → whole a z y x ≡ run w s o l → a ≡ Text k u n → n ≤ length x
 text-within w s o l {a} {z} {y} {x} {k} {u} {n} e q =

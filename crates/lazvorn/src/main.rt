@@ -4,7 +4,7 @@ ghost use mathlib.Core.Path.{_≡_};
 ghost use Rattle.table.specs.Refusal as refusals;
 use libc::STDIN_FILENO;
 use libc::STDOUT_FILENO;
-use run::Ran;
+use running::Ran;
 use table::Refusal;
 
 // The paper's number of a refusal.

@@ -6,8 +6,8 @@ use native.Mathlib.Omega.{arith}
 use native.Mathlib.Numerals.{add-one}
 use lib.ListN.{length, getD, set, length-set}
 use lib.Seq.{getD-set-same, getD-set-other}
-use Rattle.machine.specs.declared.Frame.{Frame}
-use Rattle.machine.specs.declared.Frame.the-variants.{SpreadFirst, SpreadSecond, TriageFirst}
+use Rattle.applying.specs.declared.Frame.{Frame}
+use Rattle.applying.specs.declared.Frame.the-variants.{SpreadFirst, SpreadSecond, TriageFirst}
 use Rattle.machine.specs.Code.{frameOf, frameAt, pushed, framesOf}
 
 -- tag and first node number of frame d are written: a word below the frame, and the two words

@@ -1,10 +1,3 @@
-pub mod States
-pub mod Leads
-pub mod Cases
-pub mod Follows
-pub mod Stops
-pub mod Complete
 pub mod Frames
 pub mod Steps
 pub mod Settled
-pub mod Vectors

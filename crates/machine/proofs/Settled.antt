@@ -17,16 +17,16 @@ use Rattle.table.specs.declared.Refusal.the-variants.{Steps, Nodes, Frames}
 use Rattle.table.specs.declared.Refusal.the-variants as refusal
 use Rattle.table.proofs.Words.{cleared-all}
 use Rattle.table.proofs.Entry.{Entered, entered, enters}
-use Rattle.machine.specs.declared.Applied.{Applied}
-use Rattle.machine.specs.declared.Applied.the-variants.{Node, Refused}
+use Rattle.applying.specs.declared.Applied.{Applied}
+use Rattle.applying.specs.declared.Applied.the-variants.{Node, Refused}
 use Rattle.machine.specs.declared.End.{End}
 use Rattle.machine.specs.declared.End.the-variants as ended
 use Rattle.machine.specs.declared.Turned.{Turned}
-use Rattle.machine.specs.Machine.{Turn, more, done, stop, uses}
-use Rattle.machine.specs.Apply.{settle, begin, apply}
+use Rattle.applying.specs.Machine.{Turn, more, done, stop, uses}
+use Rattle.applying.specs.Apply.{settle, begin, apply}
 use Rattle.machine.specs.Code.{endOf, turnOf}
-use Rattle.machine.proofs.States.{Later, uses-later}
-use Rattle.machine.proofs.Cases.{good-begin}
+use Rattle.applying.proofs.States.{Later, uses-later}
+use Rattle.applying.proofs.Cases.{good-begin}
 
 -- Where an application ends: y and z are the words of table and stack that it leaves.
 module _ (u : ℕ) (w s y z : List ℕ) (x : Turned) (a : Applied) (stack : z ≡ cleared s 0 (length s)) where

@@ -11,15 +11,16 @@ use Rattle.table.specs.Code.{placedBy}
 use Rattle.table.specs.declared.NewNode.{NewNode}
 use Rattle.table.specs.declared.Refusal.the-variants.{Nodes, Frames}
 use Rattle.table.proofs.Words.{sound-node}
-use Rattle.machine.specs.declared.Rule.{Rule}
-use Rattle.machine.specs.declared.Rule.the-variants.{Leaf, Stem, Drop, Spread, Triage}
-use Rattle.machine.specs.declared.Frame.{Frame}
-use Rattle.machine.specs.declared.Frame.the-variants.{SpreadFirst, SpreadSecond, TriageFirst}
+use Rattle.applying.specs.declared.Rule.{Rule}
+use Rattle.applying.specs.declared.Rule.the-variants.{Leaf, Stem, Drop, Spread, Triage}
+use Rattle.applying.specs.declared.Frame.{Frame}
+use Rattle.applying.specs.declared.Frame.the-variants.{SpreadFirst, SpreadSecond, TriageFirst}
 use Rattle.machine.specs.declared.Machine.{Machine}
 use Rattle.machine.specs.declared.Turned.{Turned}
-use Rattle.machine.specs.Machine.{rule, State, Turn, more, done, stop, resume, grow, hold, useRule, turn, after, uses}
-use Rattle.machine.specs.Code.{frameAt, pushed, framesOf, stateOf, turnOf, moreOf, Good}
-use Rattle.machine.proofs.States.{RuleIn, rule-in, Later, turn-later, Counted, turn-steps}
+use Rattle.applying.specs.Machine.{rule, State, Turn, more, done, stop, resume, grow, hold, useRule, turn, after, uses}
+use Rattle.machine.specs.Code.{frameAt, pushed, framesOf, stateOf, turnOf, moreOf}
+use Rattle.applying.specs.States.{Good}
+use Rattle.applying.proofs.States.{RuleIn, rule-in, Later, turn-later, Counted, turn-steps}
 use Rattle.machine.proofs.Frames.{frames-pushed, frames-last, length-frames}
 
 -- node v goes to the last frame

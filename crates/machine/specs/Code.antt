@@ -6,13 +6,13 @@ use lib.ListN.{length, getD, set}
 use lib.Dec.{eqb}
 use Rattle.table.specs.Nodes.{Sound}
 use Rattle.table.specs.declared.Refusal.the-variants.{Nodes, Frames}
-use Rattle.machine.specs.declared.Frame.{Frame}
-use Rattle.machine.specs.declared.Frame.the-variants.{SpreadFirst, SpreadSecond, TriageFirst}
+use Rattle.applying.specs.declared.Frame.{Frame}
+use Rattle.applying.specs.declared.Frame.the-variants.{SpreadFirst, SpreadSecond, TriageFirst}
 use Rattle.machine.specs.declared.Machine.{Machine}
 use Rattle.machine.specs.declared.End.{End}
 use Rattle.machine.specs.declared.End.the-variants as ended
 use Rattle.machine.specs.declared.Turned.{Turned}
-use Rattle.machine.specs.Machine.{State, Turn, more, done, stop}
+use Rattle.applying.specs.Machine.{State, Turn, more, done, stop}
 
 -- a frame by its three words in the stack: a tag and two node numbers, of which a frame that names one node leaves the second as it was
 unfoldable pub frameOf : ℕ → ℕ → ℕ → Frame
@@ -57,22 +57,3 @@ turnOf r w s = endOf (r .end) (r .state) w s
 abbrev pub moreOf : ℕ → ℕ → ℕ → ℕ → ℕ → Turned
 moreOf used f n held steps =
     record { state = record { used = used; function = f; argument = n; held = held; steps = steps }; end = ended.More }
-
--- the nodes that a frame names are below u, and those of all frames
-abbrev pub FrameIn : ℕ → Frame → Type 0
-FrameIn u (SpreadFirst p n) = (p < u) × (n < u)
-FrameIn u (SpreadSecond v) = v < u
-FrameIn u (TriageFirst q) = q < u
-
-abbrev pub FramesIn : ℕ → List Frame → Type 0
-FramesIn u [] = Unit {0}
-FramesIn u (e ∷ fs) = FrameIn u e × FramesIn u fs
-
--- What holds of each state of an application with `all` frames lent: the table is sound, the nodes that it names are in use, and no more
--- frames are held than there are.
-pub record Good (all : ℕ) (s : State) : Type 0 where
-  pub fine : Sound (s .table)
-  pub function-in : s .function < s .table .used
-  pub argument-in : s .argument < s .table .used
-  pub frames-in : FramesIn (s .table .used) (s .frames)
-  pub held-in : length (s .frames) ≤ all

@@ -1,3 +1,1 @@
-pub mod Machine
-pub mod Apply
 pub mod Code

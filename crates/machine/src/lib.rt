@@ -1,4 +1,7 @@
 // The five rules on a table, one use at a time, with steps, nodes and frames counted: Apply. The definitions are in specs/.
+use applying::Applied;
+use applying::Frame;
+use applying::Rule;
 use table::Checked;
 use table::Refusal;
 ghost use mathlib.Core.Path.{_≡_};
@@ -7,38 +10,10 @@ ghost use Prim.Native.Nat.{ℕ, _+_, _-_, _*_, _≤_, _<_};
 ghost use lib.ListN.{length};
 ghost use Rattle.table.specs.Nodes.{first, cleared};
 ghost use Rattle.table.specs.Outcome.{whole, frames};
-ghost use Rattle.machine.specs.Machine.{forkRule, rule, resume, grow, hold, turn, uses};
-ghost use Rattle.machine.specs.Apply.{settle, apply};
-ghost use Rattle.machine.specs.Code.{frameAt, pushed, framesOf, stateOf, turnOf, moreOf, FrameIn, Good};
-
-// Which of the five rules applying a node takes, with the nodes that the rule names.
-pub enum Rule {
-    Leaf,
-    Stem(usize),
-    Drop(usize),
-    Spread(usize, usize),
-    Triage(usize, usize),
-}
-
-// An application that waits for the outcome of another.
-pub enum Frame {
-    // spread, while y is applied to N: p and N
-    SpreadFirst(usize, usize),
-    // spread, while p is applied to N: v
-    SpreadSecond(usize),
-    // triage, while N is applied to p: q
-    TriageFirst(usize),
-}
-
-// Apply's answer: the outcome's node, the new count of used nodes, and the uses of the rules.
-pub enum Applied {
-    Node {
-        node: usize,
-        used: usize,
-        steps: usize,
-    },
-    Refused(Refusal),
-}
+ghost use Rattle.applying.specs.Machine.{forkRule, rule, resume, grow, hold, turn, uses};
+ghost use Rattle.applying.specs.Apply.{settle, apply};
+ghost use Rattle.machine.specs.Code.{frameAt, pushed, framesOf, stateOf, turnOf, moreOf};
+ghost use Rattle.applying.specs.States.{FrameIn, Good};
 
 // A state of an application: the node applied and its argument, how many frames are held, and the steps so far. The nodes and the frames
 // themselves lie in the lent words. Where the application is done, `function` is the outcome's node.

@@ -10,7 +10,7 @@ use lib.ListN.{length, getD, take, drop, length-drop, drop-of-length-le}
 use lib.Seq.{drop-cons, drop-drop}
 use lib.Dec.{leb}
 use borrow.Author.Tests.{le-leb, lt-leb, leb-true, leb-false}
-use Rattle.packet.specs.Packet.{Field, before, fields}
+use Rattle.fields.specs.Packet.{Field, before, fields}
 use Rattle.packet.specs.Code.{sizeAt, endAt, valueAt, fieldsFrom}
 
 -- a larger bound reads the same fields

@@ -10,7 +10,7 @@ use lib.ListN.{length, getD, take, drop, length-drop}
 use lib.Seq.{length-take-le, drop-cons}
 use lib.Dec.{leb, eqb}
 use borrow.Author.Tests.{le-leb, lt-leb, leb-true, leb-false, eq-eqb, ne-eqb}
-use Rattle.packet.specs.Packet.{Field, before, fields, Packet, highFirst, withArgument, lastField, afterRule, fromFields, packet}
+use Rattle.fields.specs.Packet.{Field, before, fields, Packet, highFirst, withArgument, lastField, afterRule, fromFields, packet}
 use Rattle.packet.specs.Code.{sizeAt, endAt, valueAt, foundAt, fieldsFrom, lastOf, afterFields, formOf, counted}
 use Rattle.packet.specs.declared.Form.{Form}
 use Rattle.packet.specs.declared.Form.the-variants.{Whole, Broken}

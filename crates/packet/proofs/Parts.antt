@@ -8,7 +8,7 @@ use native.Mathlib.Omega.{arith}
 use lib.ListN.{length, getD, take, drop}
 use lib.Dec.{leb, eqb}
 use borrow.Author.Tests.{leb-true, leb-false, eqb-true, eqb-false}
-use Rattle.packet.specs.Packet.{Field, before, fields, Packet, highFirst, withArgument, lastField, afterRule, packet}
+use Rattle.fields.specs.Packet.{Field, before, fields, Packet, highFirst, withArgument, lastField, afterRule, packet}
 use Rattle.packet.specs.Code.{sizeAt, endAt, valueAt, Stand, valuesAt, fieldsFrom, afterFields, formOf}
 use Rattle.packet.specs.declared.Form.the-variants.{Whole, Broken}
 use Rattle.packet.proofs.Fields.{fields-end, fields-broken, fields-next}

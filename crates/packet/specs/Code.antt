@@ -5,7 +5,7 @@ use mathlib.Core.List.{List, [], _∷_}
 use mathlib.Core.Option.{Option, none, some}
 use lib.ListN.{length, getD, take, drop}
 use lib.Dec.{leb}
-use Rattle.packet.specs.Packet.{Field, fields, Packet, lastField, afterRule}
+use Rattle.fields.specs.Packet.{Field, fields, Packet, lastField, afterRule}
 use Rattle.packet.specs.declared.Part.{Part}
 use Rattle.packet.specs.declared.Form.{Form}
 use Rattle.packet.specs.declared.Form.the-variants.{Whole, Broken}

@@ -4,8 +4,8 @@ ghost use mathlib.Core.Path.{_≡_};
 ghost use mathlib.Core.List.{List};
 ghost use Prim.Native.Nat.{ℕ, _+_, _≤_, _<_};
 ghost use lib.ListN.{length, getD, take, drop};
-ghost use Rattle.packet.specs.Packet.{highFirst};
-ghost use Rattle.packet.specs.Packet as reading;
+ghost use Rattle.fields.specs.Packet.{highFirst};
+ghost use Rattle.fields.specs.Packet as reading;
 ghost use Rattle.packet.specs.Code.{endAt, partAt, foundAt, fieldsFrom, lastOf, afterFields, formOf, counted};
 
 // Where a field's value stands: packet[start..end].

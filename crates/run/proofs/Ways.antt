@@ -18,27 +18,27 @@ use Rattle.table.specs.declared.Refusal.the-variants as refusal
 use Rattle.table.specs.declared.Made.{Made}
 use Rattle.table.specs.declared.Made.the-variants as made
 use Rattle.table.proofs.Words.{cleared-all}
-use Rattle.text.specs.Read.{read, readable}
+use Rattle.ternary.specs.Read.{read, readable}
 use Rattle.text.specs.Code.{isSome}
-use Rattle.text.specs.Write as write
-use Rattle.text.specs.declared.Written.{Written}
-use Rattle.text.specs.declared.Written.the-variants as written
-use Rattle.text.proofs.OneText.{zero-one}
-use Rattle.text.proofs.Reading.{read-gives}
-use Rattle.term.specs.Translate.{translate}
+use Rattle.ternary.specs.Write as write
+use Rattle.ternary.specs.declared.Written.{Written}
+use Rattle.ternary.specs.declared.Written.the-variants as written
+use Rattle.ternary.proofs.OneText.{zero-one}
+use Rattle.ternary.proofs.Reading.{read-gives}
+use Rattle.translation.specs.Translate.{translate}
 use Rattle.term.specs.Weight.{sizeOf}
-use Rattle.term.proofs.Translates.{translate-gives}
+use Rattle.translation.proofs.Translates.{translate-gives}
 use Rattle.term.proofs.Outcomes.{no-rule, sized}
-use Rattle.machine.specs.Apply.{apply}
-use Rattle.machine.specs.declared.Applied.{Applied}
-use Rattle.machine.specs.declared.Applied.the-variants as applied
-use Rattle.machine.proofs.Follows.{apply-follows}
-use Rattle.packet.specs.Packet.{Packet, packet}
+use Rattle.applying.specs.Apply.{apply}
+use Rattle.applying.specs.declared.Applied.{Applied}
+use Rattle.applying.specs.declared.Applied.the-variants as applied
+use Rattle.applying.proofs.Follows.{apply-follows}
+use Rattle.fields.specs.Packet.{Packet, packet}
 use Rattle.packet.specs.Code.{endAt, valueAt, Stand, valuesAt, formOf}
 use Rattle.packet.specs.declared.Form.the-variants as form
 use Rattle.packet.proofs.Parts.{Parts, packet-parts, Next, next-field, part-value}
-use Rattle.run.specs.Run.{Whole, whole, stopped, afterMade, afterApplied, afterWritten, writes, applies, reads, stages, allReadable, runPacket, lengthsFit, run}
-use Rattle.run.specs.declared.Ran.the-variants.{Text, Refused}
+use Rattle.running.specs.Run.{Whole, whole, stopped, afterMade, afterApplied, afterWritten, writes, applies, reads, stages, allReadable, runPacket, lengthsFit, run}
+use Rattle.running.specs.declared.Ran.the-variants.{Text, Refused}
 
 -- ---- a refusal at a stage, and an answer that is none
 

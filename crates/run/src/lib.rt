@@ -1,27 +1,18 @@
 // Run: a packet's rule on its arguments, and the text of the outcome. Each stage is a function that ends in the next one, as in the definition
 // (specs/), and takes its inner answer apart: a refusal clears what was made since Run's entry.
-use machine::Applied;
+use applying::Applied;
 use packet::Form;
+use running::Ran;
 use table::Made;
 use table::Refusal;
-use text::Written;
+use ternary::Written;
 ghost use mathlib.Core.Path.{_≡_};
 ghost use mathlib.Core.List.{List};
 ghost use Prim.Native.Nat.{ℕ, _*_, _≤_};
 ghost use lib.ListN.{length, take};
-ghost use Rattle.packet.specs.Packet as reading;
+ghost use Rattle.fields.specs.Packet as reading;
 ghost use Rattle.packet.specs.Code.{endAt, valueAt, Stand, valuesAt};
-ghost use Rattle.run.specs.Run.{whole, stopped, writes, applies, reads, stages, allReadable, runPacket, run};
-
-// Run's answer: the uses of the rules, the count of used nodes, and how many digits were written.
-pub enum Ran {
-    Text {
-        steps: usize,
-        used: usize,
-        digits: usize,
-    },
-    Refused(Refusal),
-}
+ghost use Rattle.running.specs.Run.{whole, stopped, writes, applies, reads, stages, allReadable, runPacket, run};
 
 // What Run does once the rule is translated: apply its node to so many arguments under this step limit.
 pub struct Job {

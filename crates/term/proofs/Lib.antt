@@ -1,6 +1,4 @@
 -- Laws of Translate for callers (Translates, Lacks), and those that the proofs of its functions cite.
-pub mod Translates
-pub mod Lacks
 pub mod Standing
 pub mod Stores
 pub mod Runs

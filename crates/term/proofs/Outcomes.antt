@@ -29,7 +29,7 @@ use Rattle.table.proofs.Making.{size-pos}
 use Rattle.table.proofs.Entry.{entered}
 use Rattle.term.specs.Words.{words, Holds, run, Builds, PlaceAt}
 use Rattle.term.specs.Weight.{sizeOf}
-use Rattle.term.specs.Translate.{translateRule, translate}
+use Rattle.translation.specs.Translate.{translateRule, translate}
 use Rattle.term.proofs.Stores.{stored}
 use Rattle.term.proofs.Runs.{words-width}
 use Rattle.term.proofs.Laying.{lay-over}

@@ -1,3 +1,2 @@
-pub mod Translate
 pub mod Words
 pub mod Weight

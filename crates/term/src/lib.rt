@@ -18,7 +18,7 @@ ghost use Rattle.table.specs.Outcome.{whole, laid};
 ghost use Rattle.table.specs.Code.{placedBy};
 ghost use Rattle.term.specs.Words.{words, Holds, Written, BracketAt, BuildAt, Builds, LayAt, PlaceAt};
 ghost use Rattle.term.specs.Weight.{unit, measured, sizeOf};
-ghost use Rattle.term.specs.Translate.{translateRule, translate};
+ghost use Rattle.translation.specs.Translate.{translateRule, translate};
 use table::Checked;
 use table::Made;
 use table::NewNode;

@@ -12,9 +12,10 @@ use borrow.Author.Tests.{eqb-true, eqb-false, eq-eqb, ne-eqb}
 use Rattle.calculus.specs.Tree.{Tree, leaf, stem, fork, size}
 use Rattle.table.specs.Nodes.{Table, Placed, make, lay}
 use Rattle.table.proofs.Making.{make-node, lay-used, lay-node}
-use Rattle.text.specs.Text.{text, takeLeaf, takeStem, takeFork, takeDigit, pending, single, treeOf, count, mostPending}
-use Rattle.text.specs.Code.{layAll, nodesOf, Holds, LaidBy, TakesDigit, LaysText, laysAs, texts}
-use Rattle.text.proofs.OneText.{zero-one, pending-texts, length-text}
+use Rattle.ternary.specs.Text.{text, takeLeaf, takeStem, takeFork, takeDigit, pending, single, treeOf, count, mostPending}
+use Rattle.ternary.specs.Text.{texts}
+use Rattle.text.specs.Code.{layAll, nodesOf, Holds, LaidBy, TakesDigit, LaysText, laysAs}
+use Rattle.ternary.proofs.OneText.{zero-one, pending-texts, length-text}
 use Rattle.text.proofs.Scanning.{drop-more, pending-none}
 
 -- ---- what a digit that is taken finds and leaves

@@ -1,8 +1,3 @@
-pub mod OneText
-pub mod Reading
-pub mod Writes
-pub mod RoundTrip
-pub mod Vectors
 pub mod Scanning
 pub mod Laying
 pub mod ReadWays

@@ -14,13 +14,14 @@ use Rattle.table.specs.Nodes.{Table, Sound, treeAt}
 use Rattle.table.specs.Outcome.{frames}
 use Rattle.table.specs.declared.Refusal.{Refusal}
 use Rattle.table.specs.declared.Refusal.the-variants.{Out, Frames}
-use Rattle.text.specs.Text.{text}
-use Rattle.text.specs.Write.{Room, left, lacks, digits}
+use Rattle.ternary.specs.Text.{text}
+use Rattle.ternary.specs.Write.{Room, left, lacks, digits}
 use Rattle.text.specs.declared.Walk.{Walk}
 use Rattle.text.specs.declared.Digit.{Digit}
 use Rattle.text.specs.declared.Then.{Then}
 use Rattle.text.specs.declared.Then.the-variants.{More, End, NoOut, NoFrame}
-use Rattle.text.specs.Code.{HoldsTrees, Stands, restOf, texts, ThenSays, DigitSays, FitsIn}
+use Rattle.ternary.specs.Text.{texts}
+use Rattle.text.specs.Code.{HoldsTrees, Stands, restOf, ThenSays, DigitSays, FitsIn}
 use Rattle.text.proofs.Then
 use Rattle.text.proofs.Writing.{rest-one, rest-out}
 

@@ -16,8 +16,8 @@ use Rattle.table.specs.declared.Made.{Made}
 use Rattle.table.specs.declared.Made.the-variants.{Node, Refused}
 use Rattle.table.proofs.Words.{cleared-none, cleared-all}
 use Rattle.table.proofs.Making.{lay-node, lay-used, size-pos}
-use Rattle.text.specs.Text.{treeOf, mostPending}
-use Rattle.text.specs.Read.{readable, readTree, read}
+use Rattle.ternary.specs.Text.{treeOf, mostPending}
+use Rattle.ternary.specs.Read.{readable, readTree, read}
 use Rattle.text.specs.declared.Scanned.the-variants.{Whole, Broken}
 use Rattle.text.specs.Code.{isSome, ScanSays, LaysText, laysAs}
 

@@ -10,10 +10,10 @@ use lib.Seq.{drop-cons, drop-length}
 use lib.Dec.{eqb}
 use borrow.Author.Tests.{eqb-true, eq-eqb, ne-eqb}
 use Rattle.calculus.specs.Tree.{Tree}
-use Rattle.text.specs.Text.{takeLeaf, takeStem, takeFork, takeDigit, pending, single, treeOf, count, mostPending}
+use Rattle.ternary.specs.Text.{takeLeaf, takeStem, takeFork, takeDigit, pending, single, treeOf, count, mostPending}
 use Rattle.text.specs.declared.Scanned.the-variants.{Whole, Broken}
 use Rattle.text.specs.Code.{ScanSays}
-use Rattle.text.proofs.OneText.{zero-one}
+use Rattle.ternary.proofs.OneText.{zero-one}
 
 -- what a stem's and a fork's digit make of the number of trees pending
 stem-count : (ts : List Tree) → length ts ≡ count (takeStem ts)

@@ -11,9 +11,9 @@ use Rattle.table.specs.Nodes.{treeAt}
 use Rattle.table.specs.Outcome.{frames, zeros, atEntry}
 use Rattle.table.specs.declared.Refusal.{Refusal}
 use Rattle.table.specs.declared.Refusal.the-variants.{Node}
-use Rattle.text.specs.Text.{text}
-use Rattle.text.specs.Write.{whole, Room, left, lacks, digits, written, write}
-use Rattle.text.specs.declared.Written.the-variants.{Digits, Refused}
+use Rattle.ternary.specs.Text.{text}
+use Rattle.ternary.specs.Write.{whole, Room, left, lacks, digits, written, write}
+use Rattle.ternary.specs.declared.Written.the-variants.{Digits, Refused}
 use Rattle.text.specs.Code.{FitsIn}
 
 module _ (w : List ℕ) (u : ℕ) (s : List ℕ) (i : ℕ) (o : List ℕ) where

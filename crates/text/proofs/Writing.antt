@@ -15,13 +15,14 @@ use Rattle.table.specs.Outcome.{frames}
 use Rattle.table.specs.declared.Refusal.the-variants.{Out, Frames}
 use Rattle.table.proofs.Words.{sound-node}
 use Rattle.table.proofs.Trees.{tree-leaf, tree-stem, tree-fork}
-use Rattle.text.specs.Text.{text}
-use Rattle.text.specs.Write.{Room, left, lacks, next, spend, digits}
+use Rattle.ternary.specs.Text.{text}
+use Rattle.ternary.specs.Write.{Room, left, lacks, next, spend, digits}
 use Rattle.text.specs.declared.Walk.{Walk}
 use Rattle.text.specs.declared.Digit.{Digit}
 use Rattle.text.specs.declared.Then.{Then}
 use Rattle.text.specs.declared.Then.the-variants.{More, End, NoOut, NoFrame}
-use Rattle.text.specs.Code.{Stepped, digitWith, leafDigit, forkDigit, HoldsTrees, Stands, restOf, texts, ThenSays, DigitSays}
+use Rattle.ternary.specs.Text.{texts}
+use Rattle.text.specs.Code.{Stepped, digitWith, leafDigit, forkDigit, HoldsTrees, Stands, restOf, ThenSays, DigitSays}
 
 -- ---- the digits of trees one after another
 

@@ -11,8 +11,8 @@ use Rattle.table.specs.Nodes.{Table, Sound, capacity, treeAt, lay}
 use Rattle.table.specs.Outcome.{frames}
 use Rattle.table.specs.declared.Refusal.{Refusal}
 use Rattle.table.specs.declared.Refusal.the-variants.{Out, Frames}
-use Rattle.text.specs.Text.{text, takeDigit, pending, treeOf, mostPending}
-use Rattle.text.specs.Write.{Room, left, lacks, next, digits}
+use Rattle.ternary.specs.Text.{texts, text, takeDigit, pending, treeOf, mostPending}
+use Rattle.ternary.specs.Write.{Room, left, lacks, next, digits}
 use Rattle.text.specs.declared.Walk.{Walk}
 use Rattle.text.specs.declared.Digit.{Digit}
 use Rattle.text.specs.declared.Then.{Then}
@@ -122,11 +122,6 @@ StandsSome w u s k = (x : Tree) × (xs : List Tree) × Stands w u s k x xs
 unfoldable pub restOf : ℕ → List Tree → ℕ → Room
 restOf all [] n = left n
 restOf all (x ∷ xs) n = next (restOf all xs) (digits all (length xs) x n)
-
--- the texts of trees one after another
-unfoldable pub texts : List Tree → List ℕ
-texts [] = []
-texts (x ∷ xs) = text x ++ texts xs
 
 -- What a digit of x says, where n out bytes are left and s is the stack before it and s′ after it.
 unfoldable pub ThenSays : List ℕ → ℕ → List ℕ → List ℕ → ℕ → Tree → List Tree → ℕ → Walk → Then → Type 0

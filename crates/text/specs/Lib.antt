@@ -1,4 +1,1 @@
-pub mod Text
-pub mod Read
-pub mod Write
 pub mod Code

@@ -7,21 +7,16 @@ ghost use lib.ListN.{length, getD, set, drop};
 ghost use Rattle.calculus.specs.Tree.{Tree};
 ghost use Rattle.table.specs.Nodes.{Table, Sound, treeAt};
 ghost use Rattle.table.specs.Outcome.{whole, frames};
-ghost use Rattle.text.specs.Text.{text, count, takeDigit, treeOf};
-ghost use Rattle.text.specs.Read.{readable, read, readTree};
-ghost use Rattle.text.specs.Write.{digits};
-ghost use Rattle.text.specs.Write as writing;
+ghost use Rattle.ternary.specs.Text.{text, count, takeDigit, treeOf};
+ghost use Rattle.ternary.specs.Read.{readable, read, readTree};
+ghost use Rattle.ternary.specs.Write.{digits};
+ghost use Rattle.ternary.specs.Write as writing;
 ghost use Rattle.text.specs.Code.{leafDigit, forkDigit, digitWith, Stands, StandsSome, DigitSays, roomOf, FitsIn, ScanSays, LaidBy, TakesDigit, LaysText, laysAs, isSome};
 use table::Checked;
 use table::Made;
 use table::NewNode;
 use table::Refusal;
-
-// Write's answer: how many digits were written.
-pub enum Written {
-    Digits(usize),
-    Refused(Refusal),
-}
+use ternary::Written;
 
 // What a scan of a text finds: one whole tree, with the most trees pending, or none.
 pub enum Scanned {

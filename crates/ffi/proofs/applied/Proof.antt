@@ -1,5 +1,5 @@
 -- `ffi::applied` meets its contract: each case of the answer. Assumes nothing.
-use Rattle.machine.specs.Apply.{appliedNumbers}
+use Rattle.applying.specs.Apply.{appliedNumbers}
 use borrow.Author.Needs.{needs}
 use Rattle.ffi.proofs.applied.Statement.{statement}
 use Rattle.ffi.proofs.applied.Tie as tie

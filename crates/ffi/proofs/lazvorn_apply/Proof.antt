@@ -1,5 +1,5 @@
 -- `ffi::lazvorn_apply` meets its contract: the operation's outcome, with its answer as numbers. Assumes nothing.
-use Rattle.machine.specs.Apply.{appliedNumbers}
+use Rattle.applying.specs.Apply.{appliedNumbers}
 use Rattle.ffi.proofs.Telling.{tells}
 use borrow.Author.Needs.{needs}
 use Rattle.ffi.proofs.lazvorn_apply.Statement.{statement}

@@ -1,5 +1,5 @@
 -- `ffi::ran` meets its contract: each case of the answer. Assumes nothing.
-use Rattle.run.specs.Run.{ranNumbers}
+use Rattle.running.specs.Run.{ranNumbers}
 use borrow.Author.Needs.{needs}
 use Rattle.ffi.proofs.ran.Statement.{statement}
 use Rattle.ffi.proofs.ran.Tie as tie

@@ -1,5 +1,5 @@
 -- `ffi::written` meets its contract: each case of the answer. Assumes nothing.
-use Rattle.text.specs.Write.{writtenNumbers}
+use Rattle.ternary.specs.Write.{writtenNumbers}
 use borrow.Author.Needs.{needs}
 use Rattle.ffi.proofs.written.Statement.{statement}
 use Rattle.ffi.proofs.written.Tie as tie

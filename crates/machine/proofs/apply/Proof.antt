@@ -1,6 +1,6 @@
 -- `machine::apply` meets its contract: the checks at entry, the uses, and how they end. Assumes nothing.
 use Rattle.machine.specs.Code.{framesOf}
-use Rattle.machine.proofs.Cases.{good-begin}
+use Rattle.applying.proofs.Cases.{good-begin}
 use Rattle.machine.proofs.Settled.{refuse-entry, passed-by, refuse-function, refuse-argument, within-limit, used-in, settled}
 use borrow.Author.Needs.{needs}
 use native.Mathlib.Omega.{arith}

@@ -1,6 +1,6 @@
 -- `machine::fork_rule` meets its contract. Assumes nothing.
 use borrow.Author.Tests.{eq-eqb, ne-eqb}
-use Rattle.machine.specs.Machine.{forkRule}
+use Rattle.applying.specs.Machine.{forkRule}
 use borrow.Author.Needs.{needs}
 use Rattle.machine.proofs.fork_rule.Statement.{statement}
 use Rattle.machine.proofs.fork_rule.Tie as tie

@@ -2,8 +2,8 @@
 use Prim.Native.Nat.{ℕ}
 use mathlib.Core.Path.{_≡_, sym, _∙_}
 use Rattle.table.specs.Outcome.{frames}
-use Rattle.machine.specs.declared.Rule.{Rule}
-use Rattle.machine.specs.Machine.{State, Turn, useRule, turn}
+use Rattle.applying.specs.declared.Rule.{Rule}
+use Rattle.applying.specs.Machine.{State, Turn, useRule, turn}
 use Rattle.machine.specs.Code.{stateOf}
 use Rattle.machine.proofs.Steps.{reach, Asks, asks, by-rule}
 use borrow.Author.Needs.{needs}

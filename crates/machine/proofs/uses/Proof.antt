@@ -10,7 +10,7 @@ use Rattle.table.specs.Outcome.{frames}
 use Rattle.machine.specs.declared.End.{End}
 use Rattle.machine.specs.declared.End.the-variants as ended
 use Rattle.machine.specs.declared.Machine.{Machine}
-use Rattle.machine.specs.Machine.{State, Turn, more, turn, after}
+use Rattle.applying.specs.Machine.{State, Turn, more, turn, after}
 use Rattle.machine.specs.Code.{stateOf, endOf}
 use Rattle.machine.proofs.End as end-type
 use Rattle.machine.proofs.Steps.{Going, going-start, going-on, going-over, going-out}

@@ -1,6 +1,6 @@
 -- `machine::wanted` meets its contract. Assumes nothing.
 use borrow.Author.Tests.{eq-eqb, ne-eqb}
-use Rattle.machine.specs.Machine.{rule}
+use Rattle.applying.specs.Machine.{rule}
 use borrow.Author.Needs.{needs}
 use Rattle.machine.proofs.wanted.Statement.{statement}
 use Rattle.machine.proofs.wanted.Tie as tie

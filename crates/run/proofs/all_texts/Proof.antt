@@ -6,7 +6,7 @@ use borrow.Author.Needs.{needs}
 use Rattle.packet.specs.Code.{Stand, valuesAt}
 use borrow.Author.Tests.{not-true, not-false}
 use Rattle.packet.proofs.Parts.{next-field, part-value}
-use Rattle.run.specs.Run.{allReadable}
+use Rattle.running.specs.Run.{allReadable}
 use Rattle.run.proofs.Ways.{texts-next, texts-stop, texts-end}
 use Rattle.run.proofs.all_texts.Statement.{statement}
 use Rattle.run.proofs.all_texts.Tie as tie

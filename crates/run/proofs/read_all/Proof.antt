@@ -6,7 +6,7 @@ use mathlib.Core.Path.{_≡_, refl, sym, ap, _∙_}
 use native.Mathlib.Omega.{arith}
 use borrow.Author.Needs.{needs}
 use Rattle.packet.proofs.Parts.{next-field, part-value}
-use Rattle.run.specs.Run.{applies}
+use Rattle.running.specs.Run.{applies}
 use Rattle.run.proofs.Ways.{made-not, Reading, reads-end, reads-next, reads-stop, read-room}
 use Rattle.run.proofs.read_all.Statement.{statement}
 use Rattle.run.proofs.read_all.Tie as tie

@@ -4,7 +4,7 @@ use borrow.Author.Needs.{needs}
 use native.Mathlib.Omega.{arith}
 use Rattle.table.specs.Nodes.{treeAt}
 use Rattle.table.specs.Outcome.{frames}
-use Rattle.text.specs.Write.{digits}
+use Rattle.ternary.specs.Write.{digits}
 use Rattle.text.proofs.Passes.{Walks, walks-begin, walks-more, walks-less, walks-end, walks-out, walks-full}
 use Rattle.text.proofs.measure.Statement.{statement}
 use Rattle.text.proofs.measure.Tie as tie

@@ -1,0 +1,203 @@
+-- What an application still has to do by the five rules: what a use leaves of it, read off the state of the machine. Assumes nothing.
+use Prim.Native.Nat.{ℕ, suc, _+_, _-_, _*_, _<_}
+use mathlib.Core.Path.{_≡_, refl, sym, ap, _∙_, transport, transport⁻¹}
+use mathlib.Core.List.{List, [], _∷_}
+use native.Mathlib.Omega.{arith}
+use lib.ListN.{length}
+use lib.Dec.{ltb}
+use borrow.Author.Tests.{ltb-true}
+use Rattle.calculus.specs.Tree.{Tree, leaf, stem, fork}
+use Rattle.calculus.specs.Rules.{Apply, by-leaf, by-stem, by-drop, by-spread, by-triage}
+use Rattle.table.specs.Nodes.{Table, capacity, first, second, Sound, treeAt, make}
+use Rattle.table.proofs.Words.{sound-node}
+use Rattle.table.proofs.Trees.{tree-leaf, tree-stem, tree-fork, Kept, kept-tree, kept-trans}
+use Rattle.table.proofs.Making.{Places, Has, stem-of, fork-of}
+use Rattle.applying.specs.declared.Rule.{Rule}
+use Rattle.applying.specs.declared.Rule.the-variants.{Leaf, Stem, Drop, Spread, Triage}
+use Rattle.applying.specs.declared.Frame.{Frame}
+use Rattle.applying.specs.declared.Frame.the-variants.{SpreadFirst, SpreadSecond, TriageFirst}
+use Rattle.applying.specs.Machine.{forkRule, rule, State, Turn, more, done, stop, resume, grow, hold, useRule, turn}
+use Rattle.applying.specs.States.{Good, FramesIn}
+use Rattle.applying.proofs.States.{cond-by, words-by, RuleIn, rule-in, tableOf, turn-later}
+
+-- f is applied to n, and P goes on from the outcome; k uses in all
+pub record Then (f n : Tree) (P : Tree → ℕ → Type 0) (k : ℕ) : Type 0 where
+  pub outcome : Tree
+  pub taken : ℕ
+  pub left : ℕ
+  pub applies : Apply f n outcome taken
+  pub goes : P outcome left
+  pub counted : k ≡ taken + left
+
+pub and-then : {f n r : Tree} {P : Tree → ℕ → Type 0} {a k : ℕ} (b : ℕ) → Apply f n r a → P r b → k ≡ a + b → Then f n P k
+and-then {r = r} {a = a} b d x e = record { outcome = r; taken = a; left = b; applies = d; goes = x; counted = e }
+
+-- an application takes at least one use
+pub uses-some : {f n r : Tree} {k : ℕ} → Apply f n r k → 0 < k
+uses-some by-leaf = omega arith
+uses-some by-stem = omega arith
+uses-some by-drop = omega arith
+uses-some (by-spread c d e) = omega arith
+uses-some (by-triage c d) = omega arith
+
+-- What the first use leaves, by the five rules: a tree to go on from, or the applications of spread ("applies y to N giving v, then p to N
+-- giving w, then v to w") and of triage ("applies N to p giving v, then v to q").
+abbrev pub Use : Tree → Tree → (Tree → ℕ → Type 0) → ℕ → Type 0
+Use leaf n P k = P (stem n) k
+Use (stem p) n P k = P (fork p n) k
+Use (fork leaf y) n P k = P y k
+Use (fork (stem p) y) n P k = Then y n (λ v. Then p n (λ w. Then v w P)) k
+Use (fork (fork p q) y) n P k = Then n p (λ v. Then v q P) k
+
+-- An application is its first use and what that leaves: "Each use is one step, counted when taken, before the applications under it."
+pub first-use : {f n : Tree} {P : Tree → ℕ → Type 0} {k : ℕ} → Then f n P (suc k) → Use f n P k
+first-use {P = P} {k = k} x = go (x .applies) (x .goes) (x .counted)
+  where
+    go : {f n r : Tree} {a b : ℕ} → Apply f n r a → P r b → suc k ≡ a + b → Use f n P k
+    go {b = b} by-leaf y e = let q : k ≡ b = omega arith in rw q y
+    go {b = b} by-stem y e = let q : k ≡ b = omega arith in rw q y
+    go {b = b} by-drop y e = let q : k ≡ b = omega arith in rw q y
+    go (by-spread c d l) y e = and-then _ c (and-then _ d (and-then _ l y refl) refl) (omega arith)
+    go (by-triage c d) y e = and-then _ c (and-then _ d y refl) (omega arith)
+
+pub before-use : (f : Tree) {n : Tree} {P : Tree → ℕ → Type 0} {k : ℕ} → Use f n P k → Then f n P (suc k)
+before-use leaf x = and-then _ by-leaf x (omega arith)
+before-use (stem p) x = and-then _ by-stem x (omega arith)
+before-use (fork leaf y) x = and-then _ by-drop x (omega arith)
+before-use (fork (stem p) y) x =
+    and-then _ (by-spread (x .applies) (x .goes .applies) (x .goes .goes .applies)) (x .goes .goes .goes)
+    (omega (arith, x .counted, x .goes .counted, x .goes .goes .counted))
+before-use (fork (fork p q) y) x = and-then _ (by-triage (x .applies) (x .goes .applies)) (x .goes .goes) (omega (arith, x .counted, x .goes .counted))
+
+-- The frames, handed a tree, lead to the tree o in k uses; the trees of nodes are read in the words w.
+abbrev pub Cont : List ℕ → Tree → List Frame → Tree → ℕ → Type 0
+Cont w o [] = λ r k. (r ≡ o) × (k ≡ 0)
+Cont w o (SpreadFirst p n ∷ fs) = λ r. Then (treeAt w p) (treeAt w n) (λ x. Then r x (Cont w o fs))
+Cont w o (SpreadSecond v ∷ fs) = λ r. Then (treeAt w v) r (Cont w o fs)
+Cont w o (TriageFirst q ∷ fs) = λ r. Then r (treeAt w q) (Cont w o fs)
+
+-- the state s leads to the tree o in k uses
+abbrev pub Leads : List ℕ → State → Tree → ℕ → Type 0
+Leads w s o k = Then (treeAt w (s .function)) (treeAt w (s .argument)) (Cont w o (s .frames)) k
+
+-- a turn leads to it; S is what is said of a stop
+abbrev pub TurnLeads : List ℕ → Tree → ℕ → Type 0 → Turn → Type 0
+TurnLeads w o k S (more z) = Leads w z o k
+TurnLeads w o k S (done p j) = (treeAt w (p .node) ≡ o) × (k ≡ 0)
+TurnLeads w o k S (stop e t) = S
+
+said : (w : List ℕ) (o : Tree) (k : ℕ) {R S : Type 0} (x : Turn) → (R → S) → TurnLeads w o k R x → TurnLeads w o k S x
+said w o k (more z) f l = l
+said w o k (done p j) f l = l
+said w o k (stop e t) f l = f l
+
+-- in a later table it is the same, for old nodes keep their trees
+cont-same : {t z : Table} → Sound t → Kept t z → (o : Tree) (fs : List Frame) → FramesIn (t .used) fs → Cont (z .words) o fs ≡ Cont (t .words) o fs
+cont-same s k o [] i = refl
+cont-same s k o (SpreadFirst p n ∷ fs) i =
+    λ d r. Then (kept-tree s k p (i .0 .0) d) (kept-tree s k n (i .0 .1) d) (λ x. Then r x (cont-same s k o fs (i .1) d))
+cont-same s k o (SpreadSecond v ∷ fs) i = λ d r. Then (kept-tree s k v (i .0) d) r (cont-same s k o fs (i .1) d)
+cont-same s k o (TriageFirst q ∷ fs) i = λ d r. Then r (kept-tree s k q (i .0) d) (cont-same s k o fs (i .1) d)
+
+pub leads-same : {all : ℕ} {s : State} {z : Table} → Good all s → Kept (s .table) z → (o : Tree) (k : ℕ)
+    → Leads (s .table .words) s o k → Leads (z .words) s o k
+leads-same {s = s} g k o j x =
+    let t = kept-tree (g .fine) k in
+    rw (t (s .function) (g .function-in), t (s .argument) (g .argument-in), cont-same (g .fine) k o (s .frames) (g .frames-in)) x
+
+-- what a rule says of the tree x that it is taken for
+abbrev TreeBy : List ℕ → Rule → Tree → Type 0
+TreeBy w Leaf x = x ≡ leaf
+TreeBy w (Stem p) x = x ≡ stem (treeAt w p)
+TreeBy w (Drop y) x = x ≡ fork leaf (treeAt w y)
+TreeBy w (Spread p y) x = x ≡ fork (stem (treeAt w p)) (treeAt w y)
+TreeBy w (Triage p q) x = (y : Tree) × (x ≡ fork (fork (treeAt w p) (treeAt w q)) y)
+
+tree-by : {t : Table} → Sound t → (i : ℕ) → i < t .used → TreeBy (t .words) (rule (t .words) i) (treeAt (t .words) i)
+unfolding rule forkRule
+tree-by {t} s i h =
+    let w = t .words in
+    let x = first w i - 1 in
+    let y = second w i - 1 in
+    let l : x < t .used = omega (arith, sound-node w (t .used) i h (s .unbroken) .first-in) in
+    let on : Tree → Tree = λ z. fork z (treeAt w y) in
+    words-by (λ r. TreeBy w r (treeAt w i)) (first w i) (second w i)
+    (λ a. tree-leaf w (t .used) i (s .unbroken) h a)
+    (λ a b. tree-stem w (t .used) i (s .unbroken) h x a b)
+    (λ a b. rw (tree-fork w (t .used) i (s .unbroken) h x y a b)
+    (words-by (λ r. TreeBy w r (on (treeAt w x))) (first w x) (second w x)
+    (λ c. ap on (tree-leaf w (t .used) x (s .unbroken) l c))
+    (λ c d. ap on (tree-stem w (t .used) x (s .unbroken) l (first w x - 1) c d))
+    (λ c d. (treeAt w y, ap on (tree-fork w (t .used) x (s .unbroken) l (first w x - 1) (second w x - 1) c d)))))
+
+same-rule : {t z : Table} → Sound t → Kept t z → (i : ℕ) → i < t .used → rule (z .words) i ≡ rule (t .words) i
+unfolding rule forkRule
+same-rule {t} {z} s k i h =
+    let a : (j : ℕ) → j < t .used → first (z .words) j ≡ first (t .words) j = λ j l. k .below (j * 2) (omega arith) in
+    let b : (j : ℕ) → j < t .used → second (z .words) j ≡ second (t .words) j = λ j l. k .below (j * 2 + 1) (omega arith) in
+    let x = first (t .words) i - 1 in
+    let l : x < t .used = omega (arith, sound-node (t .words) (t .used) i h (s .unbroken) .first-in) in
+    rw (a i h, b i h, a x l, b x l)
+
+-- What a turn from a good state leads to is what the use of its rule leaves. Trees are read in a later table y.
+module _ {all : ℕ} {s : State} (g : Good all s) {y : Table} (fine : Sound y) (kept : Kept (s .table) y) (o : Tree) (k : ℕ) where
+  abbrev tree : ℕ → Tree
+  tree = treeAt (y .words)
+
+  abbrev Left : Tree → Type 0
+  Left x = Use x (tree (s .argument)) (Cont (y .words) o (s .frames)) k
+
+  resume-leads : (S : Type 0) (t : Table) (fs : List Frame) (j v : ℕ)
+      → (TurnLeads (y .words) o k S (resume t fs j v) ≡ Cont (y .words) o fs (tree v) k) × (tableOf (resume t fs j v) ≡ t)
+  unfolding resume
+  resume-leads S t [] j v = (refl, refl)
+  resume-leads S t (SpreadFirst p n ∷ fs) j v = (refl, refl)
+  resume-leads S t (SpreadSecond u ∷ fs) j v = (refl, refl)
+  resume-leads S t (TriageFirst q ∷ fs) j v = (refl, refl)
+
+  old : {i : ℕ} → i < s .table .used → Has (s .table) i (tree i)
+  old {i} h = record { inside = h; tree = sym (kept-tree (g .fine) kept i h) }
+
+  grow-leads : (a b : ℕ) {x : Tree} → (s .table .used < capacity (s .table .words) → Places (s .table) (make (s .table) a b) x)
+      → Kept (tableOf (grow s a b)) y
+      → TurnLeads (y .words) o k (Cont (y .words) o (s .frames) x k) (grow s a b) ≡ Cont (y .words) o (s .frames) x k
+  unfolding grow
+  grow-leads a b {x} p =
+      cond-by (λ z. Kept (tableOf z) y → TurnLeads (y .words) o k (Cont (y .words) o (s .frames) x k) z ≡ Cont (y .words) o (s .frames) x k)
+      (ltb (s .table .used) (capacity (s .table .words)))
+      (λ e m. let q = p (ltb-true _ _ e) in
+      let r = resume-leads _ (make (s .table) a b .table) (s .frames) (s .steps + 1) (make (s .table) a b .node) in
+      r .0 ∙ ap (λ (z : Tree). Cont (y .words) o (s .frames) z k) (kept-tree (q .fine) (rw (r .1) at m) _ (q .inside) ∙ q .tree))
+      (λ e m. refl)
+
+  hold-leads : (e : Frame) (f n : ℕ) {S : Type 0}
+      → S ≡ Leads (y .words) (record { table = s .table; function = f; argument = n; frames = e ∷ s .frames; steps = s .steps + 1 }) o k
+      → TurnLeads (y .words) o k S (hold all s e f n) ≡ S
+  unfolding hold
+  hold-leads e f n {S} q = cond-by (λ z. TurnLeads (y .words) o k S z ≡ S) (ltb (length (s .frames)) all) (λ b. sym q) (λ b. refl)
+
+  use-leads : (r : Rule) (x : Tree) → RuleIn (s .table .used) r → TreeBy (y .words) r x → Kept (tableOf (useRule all s r)) y
+      → TurnLeads (y .words) o k (Left x) (useRule all s r) ≡ Left x
+  unfolding useRule
+  use-leads Leaf x i e m = rw e (grow-leads (s .argument + 1) 0 (λ h. stem-of (g .fine) h (old (g .argument-in))) m)
+  use-leads (Stem p) x i e m = rw e (grow-leads (p + 1) (s .argument + 1) (λ h. fork-of (g .fine) h (old i) (old (g .argument-in))) m)
+  use-leads (Drop z) x i e m = rw e (resume-leads _ (s .table) (s .frames) (s .steps + 1) z .0)
+  use-leads (Spread p z) x i e m = rw e (hold-leads (SpreadFirst p (s .argument)) z (s .argument) refl)
+  use-leads (Triage p q) x i e m = rw (e .1) (hold-leads (TriageFirst q) (s .argument) p refl)
+
+  turn-leads : Kept (tableOf (turn all s)) y → TurnLeads (y .words) o k (Left (tree (s .function))) (turn all s) ≡ Left (tree (s .function))
+  unfolding turn
+  turn-leads =
+      use-leads (rule (s .table .words) (s .function)) (tree (s .function)) (rule-in (g .fine) (s .function) (g .function-in))
+      (rw (← same-rule (g .fine) kept (s .function) (g .function-in)) (tree-by fine (s .function) (omega (arith, g .function-in, kept .up))))
+
+module _ {all : ℕ} {s : State} (g : Good all s) {y : Table} (fine : Sound y) (kept : Kept (tableOf (turn all s)) y) (o : Tree) (k : ℕ) where
+  since : Kept (s .table) y
+  since = kept-trans (turn-later g .extends .kept) kept
+
+  -- Where the turn leads to o in k uses, the state before it does in k + 1, and the other way round.
+  pub leads-before : TurnLeads (y .words) o k ⊥ (turn all s) → Leads (y .words) s o (suc k)
+  leads-before x = before-use _ (transport (turn-leads g fine since o k kept) (said (y .words) o k (turn all s) (λ e. absurd e) x))
+
+  pub leads-after : Leads (y .words) s o (suc k) → TurnLeads (y .words) o k (Unit {0}) (turn all s)
+  leads-after x = said (y .words) o k (turn all s) (λ e. tt) (transport⁻¹ (turn-leads g fine since o k kept) (first-use x))

@@ -1,0 +1,7 @@
+pub mod States
+pub mod Leads
+pub mod Cases
+pub mod Follows
+pub mod Stops
+pub mod Complete
+pub mod Vectors

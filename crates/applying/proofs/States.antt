@@ -1,0 +1,231 @@
+-- What holds of every state of an application, what a use of a rule leads to, and how uses add up. Assumes nothing.
+use Prim.Native.Nat.{ℕ, zero, suc, _+_, _-_, _≤_, _<_}
+use mathlib.Core.Path.{_≡_, refl}
+use mathlib.Core.Bool.{Bool, true, false, cond}
+use mathlib.Core.List.{List, [], _∷_}
+use native.Mathlib.Omega.{arith}
+use lib.ListN.{length}
+use lib.Dec.{ltb, eqb}
+use borrow.Author.Tests.{ltb-true, ltb-false, eqb-true, eqb-false}
+use Rattle.calculus.specs.Tree.{Tree}
+use Rattle.table.specs.Nodes.{Table, Placed, capacity, first, second, Sound, make}
+use Rattle.table.specs.declared.Refusal.{Refusal}
+use Rattle.table.specs.declared.Refusal.the-variants.{Nodes, Frames}
+use Rattle.table.proofs.Words.{sound-node}
+use Rattle.table.proofs.Trees.{Extends, extends-refl, extends-trans}
+use Rattle.table.proofs.Making.{Places, make-stem, make-fork}
+use Rattle.applying.specs.declared.Rule.{Rule}
+use Rattle.applying.specs.declared.Rule.the-variants.{Leaf, Stem, Drop, Spread, Triage}
+use Rattle.applying.specs.declared.Frame.{Frame}
+use Rattle.applying.specs.declared.Frame.the-variants.{SpreadFirst, SpreadSecond, TriageFirst}
+use Rattle.applying.specs.States.{FrameIn, FramesIn, Good}
+use Rattle.applying.specs.Machine.{forkRule, rule, State, Turn, more, done, stop, resume, grow, hold, useRule, turn, after, uses}
+
+-- a choice by a test, with what the test says
+pub cond-by {ℓ} : {A : Type 0} (P : A → Type ℓ) (b : Bool) {x y : A} → (b ≡ true → P x) → (b ≡ false → P y) → P (cond b x y)
+cond-by P true f g = f refl
+cond-by P false f g = g refl
+
+-- a choice by a node's branch words a and b
+pub words-by : {A : Type 0} (P : A → Type 0) (a b : ℕ) {x y z : A}
+    → (a ≡ 0 → P x) → (a ≡ a - 1 + 1 → b ≡ 0 → P y) → (a ≡ a - 1 + 1 → b ≡ b - 1 + 1 → P z)
+    → P (cond (eqb a 0) x (cond (eqb b 0) y z))
+words-by P a b f g h =
+    cond-by P (eqb a 0) (λ d. f (eqb-true a 0 d))
+    (λ d. let n : (a ≡ 0 → ⊥) = eqb-false a 0 d in
+    cond-by P (eqb b 0) (λ e. g (omega arith) (eqb-true b 0 e)) (λ e. let m : (b ≡ 0 → ⊥) = eqb-false b 0 e in h (omega arith) (omega arith)))
+
+-- the nodes that a rule names are below u
+abbrev pub RuleIn : ℕ → Rule → Type 0
+RuleIn u Leaf = Unit {0}
+RuleIn u (Stem p) = p < u
+RuleIn u (Drop y) = y < u
+RuleIn u (Spread p y) = (p < u) × (y < u)
+RuleIn u (Triage p q) = (p < u) × (q < u)
+
+frames-up : {u z : ℕ} → u ≤ z → (fs : List Frame) → FramesIn u fs → FramesIn z fs
+frames-up h [] i = tt
+frames-up h (SpreadFirst p n ∷ fs) i = ((omega (arith, i .0), omega (arith, i .0)), frames-up h fs (i .1))
+frames-up h (SpreadSecond v ∷ fs) i = (omega (arith, i .0), frames-up h fs (i .1))
+frames-up h (TriageFirst q ∷ fs) i = (omega (arith, i .0), frames-up h fs (i .1))
+
+-- the rule that a node in use takes names nodes in use
+pub rule-in : {t : Table} → Sound t → (f : ℕ) → f < t .used → RuleIn (t .used) (rule (t .words) f)
+unfolding rule forkRule
+rule-in {t} s f h =
+    let w = t .words in
+    let a = sound-node w (t .used) f h (s .unbroken) in
+    let x = first w f - 1 in
+    let y = second w f - 1 in
+    let c : x < t .used = omega (arith, a .first-in) in
+    let d : y < t .used = omega (arith, a .second-in) in
+    let b = sound-node w (t .used) x c (s .unbroken) in
+    words-by (RuleIn (t .used)) (first w f) (second w f) (λ e. tt) (λ e k. c)
+    (λ e k. words-by (RuleIn (t .used)) (first w x) (second w x) (λ i. d)
+    (λ i j. (omega (arith, b .first-in), d)) (λ i j. (omega (arith, b .first-in), omega (arith, b .second-in))))
+
+-- the table that a turn leaves
+abbrev pub tableOf : Turn → Table
+tableOf (more z) = z .table
+tableOf (done p k) = p .table
+tableOf (stop e t) = t
+
+abbrev pub Ready : ℕ → Turn → Type 0
+Ready all (more z) = Good all z
+Ready all (done p k) = p .node < p .table .used
+Ready all (stop e t) = Unit {0}
+
+-- What holds of a turn that came from the table t: its table is sound and extends t, a further state is good, and the outcome's node is in
+-- use.
+pub record Later (all : ℕ) (t : Table) (x : Turn) : Type 0 where
+  pub fine : Sound (tableOf x)
+  pub extends : Extends t (tableOf x)
+  pub ready : Ready all x
+
+goes : {all : ℕ} {t : Table} {z : State} → Good all z → Extends t (z .table) → Later all t (more z)
+goes g x = record { fine = g .fine; extends = x; ready = g }
+
+halts : (all : ℕ) {t : Table} (e : Refusal) → Sound t → Later all t (stop e t)
+halts all {t} e f = record { fine = f; extends = extends-refl t; ready = tt }
+
+resume-later : {all : ℕ} {t z : Table} → Sound z → Extends t z → (fs : List Frame) (k v : ℕ)
+    → FramesIn (z .used) fs → length fs ≤ all → v < z .used → Later all t (resume z fs k v)
+unfolding resume
+resume-later f x [] k v i h l = record { fine = f; extends = x; ready = l }
+resume-later f x (SpreadFirst p n ∷ fs) k v i h l =
+    goes (record { fine = f; function-in = i .0 .0; argument-in = i .0 .1; frames-in = (l, i .1); held-in = h }) x
+resume-later f x (SpreadSecond u ∷ fs) k v i h l =
+    goes (record { fine = f; function-in = i .0; argument-in = l; frames-in = i .1; held-in = omega arith }) x
+resume-later f x (TriageFirst q ∷ fs) k v i h l =
+    goes (record { fine = f; function-in = l; argument-in = i .0; frames-in = i .1; held-in = omega arith }) x
+
+module _ {all : ℕ} {s : State} (g : Good all s) where
+  grow-later : (a b : ℕ) {x : Tree} → (s .table .used < capacity (s .table .words) → Places (s .table) (make (s .table) a b) x)
+      → Later all (s .table) (grow s a b)
+  unfolding grow
+  grow-later a b m =
+      cond-by (Later all (s .table)) (ltb (s .table .used) (capacity (s .table .words)))
+      (λ e. let p = m (ltb-true _ _ e) in
+      resume-later (p .fine) (p .extends) (s .frames) _ _ (frames-up (p .extends .kept .up) (s .frames) (g .frames-in)) (g .held-in) (p .inside))
+      (λ e. halts all Nodes (g .fine))
+
+  hold-later : (e : Frame) (f n : ℕ) → FrameIn (s .table .used) e → f < s .table .used → n < s .table .used → Later all (s .table) (hold all s e f n)
+  unfolding hold
+  hold-later e f n i h l =
+      cond-by (Later all (s .table)) (ltb (length (s .frames)) all)
+      (λ b. goes (record { fine = g .fine; function-in = h; argument-in = l; frames-in = (i, g .frames-in); held-in = ltb-true _ _ b })
+      (extends-refl (s .table)))
+      (λ b. halts all Frames (g .fine))
+
+  use-later : (r : Rule) → RuleIn (s .table .used) r → Later all (s .table) (useRule all s r)
+  unfolding useRule
+  use-later Leaf i = grow-later (s .argument + 1) 0 (λ h. make-stem (g .fine) h (s .argument) (g .argument-in))
+  use-later (Stem p) i = grow-later (p + 1) (s .argument + 1) (λ h. make-fork (g .fine) h p (s .argument) i (g .argument-in))
+  use-later (Drop y) i = resume-later (g .fine) (extends-refl (s .table)) (s .frames) (s .steps + 1) y (g .frames-in) (g .held-in) i
+  use-later (Spread p y) i = hold-later (SpreadFirst p (s .argument)) y (s .argument) (i .0, g .argument-in) (i .1) (g .argument-in)
+  use-later (Triage p q) i = hold-later (TriageFirst q) (s .argument) p (i .1) (g .argument-in) (i .0)
+
+-- A use of a rule leads from a good state to a good one, to a node in use, or to a stop, and "no other table word than those of new nodes
+-- changes" (Operations).
+pub turn-later : {all : ℕ} {s : State} → Good all s → Later all (s .table) (turn all s)
+unfolding turn
+turn-later {all} {s} g = use-later g (rule (s .table .words) (s .function)) (rule-in (g .fine) (s .function) (g .function-in))
+
+later-trans : {all : ℕ} {t z : Table} {x : Turn} → Extends t z → Later all z x → Later all t x
+later-trans e l = record { fine = l .fine; extends = extends-trans e (l .extends); ready = l .ready }
+
+-- So do any number of uses: "no other table word than those of new nodes changes".
+pub uses-later : (k : ℕ) {all : ℕ} {s : State} → Good all s → Later all (s .table) (uses all k s)
+unfolding uses after
+uses-later zero {all} {s} g = goes g (extends-refl (s .table))
+uses-later (suc k) {all} {s} g = go (turn all s) (turn-later g) (λ (z : State) (h : Good all z). uses-later k h)
+  where
+    go : (x : Turn) → Later all (s .table) x → ((z : State) → Good all z → Later all (z .table) (uses all k z))
+        → Later all (s .table) (after (uses all k) x)
+    go (more z) l r = later-trans (l .extends) (r z (l .ready))
+    go (done p j) l r = l
+    go (stop e t) l r = l
+
+-- what a rule needs: "one new node" (leaf and stem), or a frame ("Spread holds one frame [..], triage during its first")
+unfoldable pub needsNode : Rule → Bool
+needsNode Leaf = true
+needsNode (Stem p) = true
+needsNode (Drop y) = false
+needsNode (Spread p y) = false
+needsNode (Triage p q) = false
+
+unfoldable pub needsFrame : Rule → Bool
+needsFrame Leaf = false
+needsFrame (Stem p) = false
+needsFrame (Drop y) = false
+needsFrame (Spread p y) = true
+needsFrame (Triage p q) = true
+
+-- Every turn, from any state: a further application or an outcome with one step more, or a stop for a node or a frame that the rule needs.
+module _ (all : ℕ) (s : State) (P : Turn → Type 0)
+    (goes-on : (z : State) → z .steps ≡ s .steps + 1 → P (more z))
+    (ends : (p : Placed) → P (done p (s .steps + 1))) where
+  resume-by : (t : Table) (fs : List Frame) (v : ℕ) → P (resume t fs (s .steps + 1) v)
+  unfolding resume
+  resume-by t [] v = ends _
+  resume-by t (SpreadFirst p n ∷ fs) v = goes-on _ refl
+  resume-by t (SpreadSecond u ∷ fs) v = goes-on _ refl
+  resume-by t (TriageFirst q ∷ fs) v = goes-on _ refl
+
+  use-by : (r : Rule)
+      → (needsNode r ≡ true → capacity (s .table .words) ≤ s .table .used → P (stop Nodes (s .table)))
+      → (needsFrame r ≡ true → all ≤ length (s .frames) → P (stop Frames (s .table)))
+      → P (useRule all s r)
+  unfolding useRule grow hold needsNode needsFrame
+  use-by Leaf a b = cond-by P (ltb (s .table .used) (capacity (s .table .words))) (λ e. resume-by _ (s .frames) _) (λ e. a refl (ltb-false _ _ e))
+  use-by (Stem p) a b = cond-by P (ltb (s .table .used) (capacity (s .table .words))) (λ e. resume-by _ (s .frames) _) (λ e. a refl (ltb-false _ _ e))
+  use-by (Drop y) a b = resume-by (s .table) (s .frames) y
+  use-by (Spread p y) a b = cond-by P (ltb (length (s .frames)) all) (λ e. goes-on _ refl) (λ e. b refl (ltb-false _ _ e))
+  use-by (Triage p q) a b = cond-by P (ltb (length (s .frames)) all) (λ e. goes-on _ refl) (λ e. b refl (ltb-false _ _ e))
+
+  pub turn-by : (needsNode (rule (s .table .words) (s .function)) ≡ true → capacity (s .table .words) ≤ s .table .used → P (stop Nodes (s .table)))
+      → (needsFrame (rule (s .table .words) (s .function)) ≡ true → all ≤ length (s .frames) → P (stop Frames (s .table)))
+      → P (turn all s)
+  unfolding turn
+  turn-by = use-by (rule (s .table .words) (s .function))
+
+-- how many steps were counted by a turn after at most k uses, where `from` were counted before
+abbrev pub Counted : ℕ → ℕ → Turn → Type 0
+Counted from k (more z) = z .steps ≡ from + k
+Counted from k (done p j) = (from < j) × (j ≤ from + k)
+Counted from k (stop e t) = Unit {0}
+
+-- "Each use is one step, counted when taken".
+pub turn-steps : (all : ℕ) (s : State) → Counted (s .steps) 1 (turn all s)
+turn-steps all s = turn-by all s (Counted (s .steps) 1) (λ z e. e) (λ p. omega arith) (λ a b. tt) (λ a b. tt)
+
+-- "Each use is one step, counted when taken": k uses that leave a further application count k steps, and those that come to an outcome count
+-- at least one and at most k.
+pub uses-steps : (all k : ℕ) (s : State) → Counted (s .steps) k (uses all k s)
+unfolding uses after
+uses-steps all zero s = omega arith
+uses-steps all (suc k) s = go (turn all s) (turn-steps all s) (uses-steps all k)
+  where
+    on : (j : ℕ) (x : Turn) → j ≡ s .steps + 1 → Counted j k x → Counted (s .steps) (suc k) x
+    on j (more y) e c = omega arith
+    on j (done p i) e c = omega arith
+    on j (stop e t) q c = tt
+
+    go : (x : Turn) → Counted (s .steps) 1 x → ((z : State) → Counted (z .steps) k (uses all k z)) → Counted (s .steps) (suc k) (after (uses all k) x)
+    go (more z) c r = on (z .steps) (uses all k z) c (r z)
+    go (done p j) c r = omega arith
+    go (stop e t) c r = tt
+
+-- A run can be paused: at most a uses and then, from the state they left, at most b are at most a + b uses.
+pub uses-add : (all a b : ℕ) (s : State) → uses all (a + b) s ≡ after (uses all b) (uses all a s)
+unfolding uses after
+uses-add all zero b s = let q : 0 + b ≡ b = omega arith in rw q
+uses-add all (suc a) b s =
+    let q : suc a + b ≡ suc (a + b) = omega arith in
+    rw q (go (turn all s) (uses-add all a b))
+  where
+    go : (x : Turn) → ((z : State) → uses all (a + b) z ≡ after (uses all b) (uses all a z))
+        → after (uses all (a + b)) x ≡ after (uses all b) (after (uses all a) x)
+    go (more z) r = r z
+    go (done p k) r = refl
+    go (stop e t) r = refl

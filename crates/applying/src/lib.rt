@@ -1,0 +1,32 @@
+// The five rules on a table, one use at a time, and Apply as a definition, in specs/, and their theorems, in proofs/. Apply in code is the crate
+// `machine`.
+use table::Refusal;
+
+// Which of the five rules applying a node takes, with the nodes that the rule names.
+pub enum Rule {
+    Leaf,
+    Stem(usize),
+    Drop(usize),
+    Spread(usize, usize),
+    Triage(usize, usize),
+}
+
+// An application that waits for the outcome of another.
+pub enum Frame {
+    // spread, while y is applied to N: p and N
+    SpreadFirst(usize, usize),
+    // spread, while p is applied to N: v
+    SpreadSecond(usize),
+    // triage, while N is applied to p: q
+    TriageFirst(usize),
+}
+
+// Apply's answer: the outcome's node, the new count of used nodes, and the uses of the rules.
+pub enum Applied {
+    Node {
+        node: usize,
+        used: usize,
+        steps: usize,
+    },
+    Refused(Refusal),
+}

@@ -1,0 +1,164 @@
+-- The reader of packets gives a packet exactly where the bytes are one, and bytes are one packet at most. Assumes nothing.
+use Prim.Native.Nat.{ℕ, zero, suc, _+_, _*_, _/_, _%_, _≤_, _<_}
+use mathlib.Core.Path.{_≡_, refl}
+use mathlib.Core.Logic.{_↔_}
+use mathlib.Core.Bool.{Bool, true, false, cond, _&&_}
+use mathlib.Core.List.{List, [], _∷_, _++_, append-assoc, append-nil}
+use mathlib.Core.Option.{Option, none, some}
+use native.Mathlib.Omega.{arith}
+use lib.ListN.{length, take, drop, length-append, take-append-drop}
+use lib.Seq.{length-take-le, take-append-seam, drop-append-seam}
+use lib.Dec.{leb, eqb}
+use borrow.Author.Tests.{leb-true, le-leb, eqb-true, eq-eqb}
+use Rattle.fields.specs.Packet.{Field, before, fields, Packet, highFirst, withArgument, lastField, afterRule, fromFields, packet}
+use Rattle.fields.specs.Packet.{fieldBytes, argumentBytes, IsLimit, named, default, IsPacket}
+
+-- every number of a list is a byte
+abbrev pub Bytes : List ℕ → Type 0
+Bytes [] = Unit {0}
+Bytes (b ∷ l) = (b < 256) × Bytes l
+
+bytes-drop : (n : ℕ) (l : List ℕ) → Bytes l → Bytes (drop n l)
+bytes-drop zero l h = h
+bytes-drop (suc n) [] h = tt
+bytes-drop (suc n) (b ∷ l) h = bytes-drop n l (h .1)
+
+-- the bytes of fields, one after another
+abbrev allBytes : List Field → List ℕ
+allBytes [] = []
+allBytes (f ∷ fs) = fieldBytes (f .tag) (f .value) ++ allBytes fs
+
+-- the fields that are read are those that the list is
+abbrev GoodFields : List ℕ → Option (List Field) → Type 0
+GoodFields l none = Unit {0}
+GoodFields l (some fs) = l ≡ allBytes fs
+
+fields-good : (n : ℕ) (l : List ℕ) → Bytes l → GoodFields l (fields n l)
+unfolding fields before fieldBytes
+fields-good zero [] h = refl
+fields-good zero (t ∷ l) h = tt
+fields-good (suc n) [] h = refl
+fields-good (suc n) (t ∷ []) h = tt
+fields-good (suc n) (t ∷ (high ∷ [])) h = tt
+fields-good (suc n) (t ∷ (high ∷ (low ∷ l))) h =
+    go (leb m (length l)) refl (fields n (drop m l)) (fields-good n (drop m l) (bytes-drop m l (h .1 .1 .1)))
+  where
+    m : ℕ
+    m = high * 256 + low
+
+    go : (z : Bool) → leb m (length l) ≡ z → (P : Option (List Field)) → GoodFields (drop m l) P
+        → GoodFields (t ∷ high ∷ low ∷ l) (cond z (before (record { tag = t; value = take m l }) P) none)
+    go true e none g = tt
+    go true e (some fs) g =
+        let long = length-take-le m l (leb-true m (length l) e) in
+        let x : length (take m l) / 256 ≡ high = omega arith in
+        let y : length (take m l) % 256 ≡ low = omega arith in
+        cc (take-append-drop m l)
+    go false e P g = tt
+
+fields-found : (n : ℕ) (fs : List Field) → length (allBytes fs) ≤ n → fields n (allBytes fs) ≡ some fs
+unfolding fields fieldBytes before
+fields-found zero [] h = refl
+fields-found (suc n) [] h = refl
+fields-found zero (f ∷ fs) h = absurd (omega arith)
+fields-found (suc n) (f ∷ fs) h =
+    let k = length (f .value) in
+    let m : k / 256 * 256 + k % 256 ≡ k = omega arith in
+    let len = length-append (f .value) (allBytes fs) in
+    let x = le-leb k (length (f .value ++ allBytes fs)) (omega arith) in
+    rw (m, x, take-append-seam (f .value) (allBytes fs), drop-append-seam (f .value) (allBytes fs), fields-found n fs (omega arith))
+
+-- the fields after a rule r are those of the packet that is read from them, and it has at most k arguments
+abbrev Good : List ℕ → ℕ → List Field → Option Packet → Type 0
+Good r k fs none = Unit {0}
+Good r k fs (some p) =
+    (end : List ℕ)
+    × (p .rule ≡ r)
+    × (allBytes fs ≡ argumentBytes (p .arguments) ++ end)
+    × IsLimit end (p .limit)
+    × (length (p .arguments) ≤ k)
+
+last-good : (r : List ℕ) (k : ℕ) (f : Field) (fs : List Field) → Good r k (f ∷ fs) (lastField r f fs)
+unfolding lastField argumentBytes
+last-good r k f [] = go (eqb (f .tag) 3) (eqb (length (f .value)) 4) (leb (highFirst 0 (f .value)) 1000000) refl refl refl
+  where
+    go : (x y z : Bool) → eqb (f .tag) 3 ≡ x → eqb (length (f .value)) 4 ≡ y → leb (highFirst 0 (f .value)) 1000000 ≡ z
+        → Good r k (f ∷ []) (cond (x && (y && z)) (some (record { rule = r; arguments = []; limit = highFirst 0 (f .value) })) none)
+    go true true true a b c =
+        let tag = eqb-true (f .tag) 3 a in
+        (fieldBytes 3 (f .value), refl, rw (tag, append-nil), named (f .value) (eqb-true _ _ b) (leb-true _ _ c), omega arith)
+    go true true false a b c = tt
+    go true false z a b c = tt
+    go false y z a b c = tt
+last-good r k f (g ∷ fs) = tt
+
+after-good : (r : List ℕ) (k : ℕ) (fs : List Field) → Good r k fs (afterRule r k fs)
+unfolding afterRule withArgument argumentBytes
+after-good r k [] = ([], refl, refl, default, omega arith)
+after-good r zero (f ∷ fs) = last-good r 0 f fs
+after-good r (suc k) (f ∷ fs) = go (eqb (f .tag) 2) refl (afterRule r k fs) (after-good r k fs)
+  where
+    go : (z : Bool) → eqb (f .tag) 2 ≡ z → (P : Option Packet) → Good r k fs P
+        → Good r (suc k) (f ∷ fs) (cond z (withArgument (f .value) P) (lastField r f fs))
+    go true e none g = tt
+    go true e (some p) g =
+        let tag = eqb-true (f .tag) 2 e in
+        (g .0, g .1, rw (tag, g .2, append-assoc), g .3, omega arith)
+    go false e P g = last-good r (suc k) f fs
+
+-- arguments and a limit are fields, and these are read
+after-found : (r : List ℕ) (k : ℕ) (vs : List (List ℕ)) {end : List ℕ} {n : ℕ} → IsLimit end n → length vs ≤ k
+    → (fs : List Field) × (allBytes fs ≡ argumentBytes vs ++ end) × (afterRule r k fs ≡ some (record { rule = r; arguments = vs; limit = n }))
+unfolding afterRule lastField withArgument argumentBytes
+after-found r k [] (named v four most) h = (record { tag = 3; value = v } ∷ [], append-nil _, rw (last k, eq-eqb _ _ four, le-leb _ _ most))
+  where
+    last : (j : ℕ) → afterRule r j (record { tag = 3; value = v } ∷ []) ≡ lastField r (record { tag = 3; value = v }) []
+    last zero = refl
+    last (suc j) = refl
+after-found r k [] default h = ([], refl, refl)
+after-found r zero (v ∷ vs) limit h = absurd (omega arith)
+after-found r (suc k) (v ∷ vs) limit h =
+    let x = after-found r k vs limit (omega arith) in
+    (record { tag = 2; value = v } ∷ x .0, rw (x .1, append-assoc), rw (x .2))
+
+-- what is read is the packet that the bytes are
+abbrev GoodPacket : List ℕ → Option Packet → Type 0
+GoodPacket l none = Unit {0}
+GoodPacket l (some p) = IsPacket l p
+
+packet-good : (l : List ℕ) → Bytes l → GoodPacket l (packet l)
+unfolding packet fromFields
+packet-good l h = go (leb (length l) 16384) refl (fields (length l) l) (fields-good (length l) l h)
+  where
+    first : length l ≤ 16384 → (f : Field) (fs : List Field) → l ≡ allBytes (f ∷ fs) → (z : Bool) → eqb (f .tag) 1 ≡ z → (P : Option Packet)
+        → Good (f .value) 8 fs P → GoodPacket l (cond z P none)
+    first short f fs g true e none x = tt
+    first short f fs g true e (some p) x =
+        let tag = eqb-true (f .tag) 1 e in
+        record { end = x .0; bytes = rw (g, tag, x .2, x .1); limit-is = x .3; few = x .4; short = short }
+    first short f fs g false e P x = tt
+
+    go : (z : Bool) → leb (length l) 16384 ≡ z → (P : Option (List Field)) → GoodFields l P → GoodPacket l (cond z (fromFields P) none)
+    go true e none g = tt
+    go true e (some []) g = tt
+    go true e (some (f ∷ fs)) g =
+        first (leb-true _ _ e) f fs g (eqb (f .tag) 1) refl (afterRule (f .value) 8 fs) (after-good (f .value) 8 fs)
+    go false e P g = tt
+
+packet-found : {l : List ℕ} {p : Packet} → IsPacket l p → packet l ≡ some p
+unfolding packet fromFields
+packet-found {l} {p} h =
+    let x = after-found (p .rule) 8 (p .arguments) (h .limit-is) (h .few) in
+    let fs : List Field = record { tag = 1; value = p .rule } ∷ x .0 in
+    let e : l ≡ allBytes fs = rw (x .1) (h .bytes) in
+    let y = fields-found (length (allBytes fs)) fs (omega arith) in
+    rw (le-leb _ _ (h .short), e, y, x .2)
+
+-- "First tag 1, a rule; then none to eight of tag 2, an argument's text; then at most one tag 3, four bytes, high first, the step limit, at most
+-- 1,000,000. [..] Anything else, or more than 16,384 bytes, is 6." (The packet) The reader gives a packet exactly where the bytes are that packet.
+pub packet-exact : (l : List ℕ) (p : Packet) → Bytes l → (packet l ≡ some p) ↔ IsPacket l p
+packet-exact l p h = (λ e. rw e at (packet-good l h), packet-found)
+
+-- "Fields: one-byte tag, two-byte length (high byte first), value." (The packet) Two packets with the same bytes are equal.
+pub packet-unique : (l : List ℕ) (p q : Packet) → IsPacket l p → IsPacket l q → p ≡ q
+packet-unique l p q h k = cc (packet-found h, packet-found k)

@@ -1,0 +1,10 @@
+pub mod Limit
+pub mod Grown
+pub mod Undone
+pub mod Outcomes
+pub mod Stages
+pub mod Checks
+pub mod Refused
+pub mod Direct
+pub mod Empty
+pub mod Complete

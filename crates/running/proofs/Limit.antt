@@ -1,0 +1,49 @@
+-- The step limit of a packet is one that Apply takes. Assumes nothing.
+use Prim.Native.Nat.{ℕ, zero, suc, _≤_}
+use mathlib.Core.Path.{_≡_}
+use mathlib.Core.Bool.{_&&_}
+use mathlib.Core.List.{List, [], _∷_}
+use mathlib.Core.Option.{Option, none, some}
+use native.Mathlib.Omega.{arith}
+use lib.ListN.{length}
+use lib.Dec.{leb, eqb}
+use borrow.Author.Tests.{leb-true}
+use Rattle.table.proofs.Words.{and-right}
+use Rattle.applying.proofs.States.{cond-by}
+use Rattle.fields.specs.Packet.{Field, Packet, highFirst, withArgument, lastField, afterRule, fromFields, fields, packet}
+
+abbrev Most : Option Packet → Type 0
+Most none = Unit {0}
+Most (some p) = p .limit ≤ 1000000
+
+last-most : (r : List ℕ) (f : Field) (fs : List Field) → Most (lastField r f fs)
+unfolding lastField
+last-most r f [] =
+    let n = leb (highFirst 0 (f .value)) 1000000 in
+    cond-by Most (eqb (f .tag) 3 && (eqb (length (f .value)) 4 && n))
+    (λ e. leb-true _ _ (and-right (eqb (length (f .value)) 4) n (and-right (eqb (f .tag) 3) _ e))) (λ e. tt)
+last-most r f (g ∷ fs) = tt
+
+with-most : (v : List ℕ) (x : Option Packet) → Most x → Most (withArgument v x)
+unfolding withArgument
+with-most v none h = tt
+with-most v (some p) h = h
+
+after-most : (r : List ℕ) (k : ℕ) (fs : List Field) → Most (afterRule r k fs)
+unfolding afterRule
+after-most r k [] = omega arith
+after-most r zero (f ∷ fs) = last-most r f fs
+after-most r (suc k) (f ∷ fs) = cond-by Most (eqb (f .tag) 2) (λ e. with-most (f .value) (afterRule r k fs) (after-most r k fs)) (λ e. last-most r f fs)
+
+from-most : (x : Option (List Field)) → Most (fromFields x)
+unfolding fromFields
+from-most none = tt
+from-most (some []) = tt
+from-most (some (f ∷ fs)) = cond-by Most (eqb (f .tag) 1) (λ e. after-most (f .value) 8 fs) (λ e. tt)
+
+-- "the step limit, at most 1,000,000. Without it the limit is 10,000." (The packet)
+pub packet-limit : (l : List ℕ) {p : Packet} → packet l ≡ some p → p .limit ≤ 1000000
+unfolding packet
+packet-limit l e =
+    let m : Most (packet l) = cond-by Most (leb (length l) 16384) (λ h. from-most (fields (length l) l)) (λ h. tt) in
+    rw e at m

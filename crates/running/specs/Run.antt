@@ -1,0 +1,112 @@
+-- The whole outcome of Run (Operations, Run). Assumes nothing: these are definitions.
+use Prim.Native.Nat.{ℕ, _+_, _-_, _*_}
+use mathlib.Core.Bool.{Bool, true, false, cond, _&&_}
+use mathlib.Core.List.{List, [], _∷_}
+use mathlib.Core.Option.{Option, none, some}
+use lib.ListN.{length}
+use lib.Dec.{leb}
+use Rattle.calculus.specs.Tree.{Tree}
+use Rattle.calculus.specs.Term.{Term}
+use Rattle.calculus.specs.Bytes as bytes
+use Rattle.table.specs.Nodes.{cleared}
+use Rattle.table.specs.Outcome.{Outcome, zeros}
+use Rattle.table.specs.Refusal.{Numbers, refusedNumbers}
+use Rattle.table.specs.declared.Refusal.{Refusal}
+use Rattle.table.specs.declared.Refusal.the-variants as refusal
+use Rattle.table.specs.declared.Made.{Made}
+use Rattle.table.specs.declared.Made.the-variants as made
+use Rattle.ternary.specs.Read.{read, readable}
+use Rattle.ternary.specs.Write as write
+use Rattle.ternary.specs.declared.Written.{Written}
+use Rattle.ternary.specs.declared.Written.the-variants as written
+use Rattle.translation.specs.Translate.{translate}
+use Rattle.applying.specs.Apply.{apply}
+use Rattle.applying.specs.declared.Applied.{Applied}
+use Rattle.applying.specs.declared.Applied.the-variants as applied
+use Rattle.fields.specs.Packet.{Packet, packet}
+use Rattle.running.specs.declared.Ran.{Ran}
+use Rattle.running.specs.declared.Ran.the-variants.{Text, Refused}
+
+-- the answer, every lent word and every out byte as Run leaves it
+pub record Whole : Type 0 where
+  pub answer : Ran
+  pub table : List ℕ
+  pub stack : List ℕ
+  pub out : List ℕ
+
+abbrev pub whole : Ran → List ℕ → List ℕ → List ℕ → Whole
+whole a w s o = record { answer = a; table = w; stack = s; out = o }
+
+-- the numbers of Run's answer: "On refusal used is 0."
+unfoldable pub ranNumbers : Ran → Numbers
+ranNumbers (Text k u n) = record { refusal = 0; node = 0; used = u; steps = k; digits = n }
+ranNumbers (Refused e) = refusedNumbers 0 e
+
+-- A stage was refused with u nodes in use before it: every node made since Run's entry is cleared, and the stack; the out bytes stay.
+unfoldable pub stopped : Refusal → List ℕ → ℕ → List ℕ → List ℕ → Whole
+stopped e w u s o = whole (Refused e) (cleared w 0 (u * 2)) (zeros s) o
+
+-- What follows a stage: the refusal of an inner operation stops Run; else its node and its count of used nodes go on. u nodes were in use
+-- before the stage, o are the out bytes.
+unfoldable pub afterMade : ℕ → List ℕ → Outcome Made → (List ℕ → ℕ → List ℕ → ℕ → Whole) → Made → Whole
+afterMade u o r next (made.Node v u′) = next (r .table) u′ (r .stack) v
+afterMade u o r next (made.Refused e) = stopped e (r .table) u (r .stack) o
+
+unfoldable pub afterApplied : ℕ → List ℕ → Outcome Applied → (List ℕ → ℕ → List ℕ → ℕ → ℕ → Whole) → Applied → Whole
+afterApplied u o r next (applied.Node v u′ k) = next (r .table) u′ (r .stack) v k
+afterApplied u o r next (applied.Refused e) = stopped e (r .table) u (r .stack) o
+
+unfoldable pub afterWritten : ℕ → ℕ → write.Outcome → Written → Whole
+afterWritten k u r (written.Digits n) = whole (Text k u n) (r .table) (r .stack) (r .out)
+afterWritten k u r (written.Refused e) = stopped e (r .table) u (r .stack) (r .out)
+
+-- Write node v, the outcome after k steps.
+unfoldable pub writes : List ℕ → ℕ → List ℕ → List ℕ → ℕ → ℕ → Whole
+writes w u s o v k = let r = write.write w u s v o in afterWritten k u r (r .answer)
+
+-- Apply node v to the argument nodes in order under one step limit, of which k steps are taken; then write.
+unfoldable pub applies : List ℕ → ℕ → List ℕ → ℕ → List ℕ → List ℕ → ℕ → ℕ → Whole
+applies [] limit w u s o v k = writes w u s o v k
+applies (n ∷ ns) limit w u s o v k =
+    let r = apply w u s v n (limit - k) in
+    afterApplied u o r (λ w′ u′ s′ v′ j. applies ns limit w′ u′ s′ o v′ (k + j)) (r .answer)
+
+-- Read each argument's text in order, and go on with the nodes.
+unfoldable pub reads : List (List ℕ) → List ℕ → ℕ → List ℕ → List ℕ → (List ℕ → List ℕ → ℕ → List ℕ → Whole) → Whole
+reads [] w u s o next = next [] w u s
+reads (l ∷ ls) w u s o next =
+    let r = read w u s l in
+    afterMade u o r (λ w′ u′ s′ n. reads ls w′ u′ s′ o (λ ns. next (n ∷ ns))) (r .answer)
+
+-- "Then Translate, Read of each argument, Apply in order under one step limit, Write, each with its 7 to 10."
+unfoldable pub stages : List ℕ → List ℕ → List ℕ → Packet → Whole
+stages w s o p =
+    let r = translate w 0 s (p .rule) in
+    afterMade 0 o r (λ w′ u′ s′ v. reads (p .arguments) w′ u′ s′ o (λ ns w″ u″ s″. applies ns (p .limit) w″ u″ s″ o v 0)) (r .answer)
+
+isSome : {A : Type 0} → Option A → Bool
+isSome none = false
+isSome (some a) = true
+
+-- whether each text is one that Read takes
+unfoldable pub allReadable : List (List ℕ) → Bool
+unfolding isSome
+allReadable [] = true
+allReadable (l ∷ ls) = isSome (readable l) && allReadable ls
+
+-- "6: packet broken. 5: its rule. 4: its arguments' texts, first to last."
+unfoldable pub runPacket : List ℕ → List ℕ → List ℕ → Option Packet → Whole
+unfolding isSome
+runPacket w s o none = whole (Refused refusal.Packet) w s o
+runPacket w s o (some p) =
+    cond (isSome (bytes.rule (p .rule)))
+    (cond (allReadable (p .arguments)) (stages w s o p) (whole (Refused refusal.Text) w s o))
+    (whole (Refused refusal.Rule) w s o)
+
+-- "1: lengths only."
+unfoldable pub lengthsFit : List ℕ → List ℕ → List ℕ → Bool
+lengthsFit w s o = leb (length w) 131072 && (leb (length s) 65536 && leb (length o) 65535)
+
+-- "Run a packet with the table taken as empty": the packet l, with the table w, the stack s and the out bytes o.
+unfoldable pub run : List ℕ → List ℕ → List ℕ → List ℕ → Whole
+run w s o l = cond (lengthsFit w s o) (runPacket w s o (packet l)) (whole (Refused refusal.Limits) w s o)

@@ -1,0 +1,5 @@
+pub mod OneText
+pub mod Reading
+pub mod Writes
+pub mod RoundTrip
+pub mod Vectors

@@ -1,0 +1,241 @@
+-- Laws of Read for its callers: what it lacked where it refuses, what a node that it gave is, and where each digit lies. Assumes nothing.
+use Prim.Native.Nat.{ℕ, zero, suc, _+_, _-_, _*_, _≤_, _<_}
+use mathlib.Core.Path.{_≡_, refl, sym, ap, _∙_}
+use mathlib.Core.Bool.{Bool, true, false, cond}
+use mathlib.Core.List.{List, [], _++_, append-assoc, append-nil}
+use mathlib.Core.Option.{Option, none, some}
+use native.Mathlib.Omega.{arith}
+use lib.ListN.{length, drop}
+use lib.Seq.{drop-append-le, drop-append-add}
+use lib.Dec.{ltb, leb}
+use borrow.Author.Tests.{ltb-true, ltb-false, leb-true, le-leb, le-ltb}
+use Rattle.calculus.specs.Tree.{Tree, leaf, stem, fork, size}
+use Rattle.table.specs.Nodes.{Table, Placed, capacity, Sound, treeAt, make, lay}
+use Rattle.table.specs.Outcome.{Outcome, whole, frames, zeros, atEntry, unless, stopped, placed, laid}
+use Rattle.table.specs.declared.Refusal.{Refusal}
+use Rattle.table.specs.declared.Refusal.the-variants.{Text, Nodes, Frames}
+use Rattle.table.specs.declared.Made.{Made}
+use Rattle.table.specs.declared.Made.the-variants.{Node, Refused}
+use Rattle.table.proofs.Words.{cleared-none}
+use Rattle.table.proofs.Trees.{Kept, kept-trans, kept-tree}
+use Rattle.table.proofs.Making.{Places, has, stays, stem-of, fork-of, lay-used, lay-node, lay-places}
+use Rattle.table.proofs.Entry.{Entered, entered, enters}
+use Rattle.table.proofs.Laid.{laid-gives, laid-answer, laid-stack}
+use Rattle.ternary.specs.Text.{text, treeOf, mostPending}
+use Rattle.ternary.specs.Read.{readable, readTree, read}
+use Rattle.ternary.proofs.OneText.{zero-one, whole-text, length-text}
+
+-- "4: text not one whole tree, or above 65,535 bytes": what holds where neither is so.
+pub record Readable (l : List ℕ) (t : Tree) : Type 0 where
+  pub short : length l ≤ 65535
+  pub tree-of : treeOf l ≡ some t
+
+-- such a text passes the check, and only such a text
+pub readable-some : (l : List ℕ) (t : Tree) → readable l ≡ some t → Readable l t
+unfolding readable
+readable-some l t = go (leb (length l) 65535) refl
+  where
+    go : (z : Bool) → leb (length l) 65535 ≡ z → cond z (treeOf l) none ≡ some t → Readable l t
+    go true p e = record { short = leb-true (length l) 65535 p; tree-of = e }
+    go false p e = zero-one (cc)
+
+pub some-readable : {l : List ℕ} {t : Tree} → Readable l t → readable l ≡ some t
+unfolding readable
+some-readable {l} r = rw (le-leb (length l) 65535 (r .short)) (r .tree-of)
+
+text-size : {l : List ℕ} {t : Tree} → Readable l t → size t ≡ length l
+text-size {l} {t} r = sym (length-text t) ∙ ap length (sym (whole-text l t (r .tree-of)))
+
+-- What Read lacked where it refuses with e and leaves the stack s′: "4: text not one whole tree [..] 8: more digits than free nodes. 9: fewer frames
+-- than the most trees pending", each met only where the checks before it were passed.
+pub data ReadLacks (w : List ℕ) (u : ℕ) (s l : List ℕ) : Refusal → List ℕ → Type 0 where
+  at-entry : {e : Refusal} → atEntry true w u s ≡ some e → ReadLacks w u s l e s
+  no-text : Entered true w u s → readable l ≡ none → ReadLacks w u s l Text s
+  no-nodes : Entered true w u s → {t : Tree} → Readable l t → capacity w - u < length l → ReadLacks w u s l Nodes (zeros s)
+  no-frames : Entered true w u s → {t : Tree} → Readable l t → length l ≤ capacity w - u → frames s < mostPending l → ReadLacks w u s l Frames (zeros s)
+
+-- What Read had where it lays out the tree t.
+pub record ReadHas (w : List ℕ) (u : ℕ) (s l : List ℕ) (t : Tree) : Type 0 where
+  pub entered : Entered true w u s
+  pub readable-as : Readable l t
+  pub nodes-enough : u + length l ≤ capacity w
+  pub frames-enough : mostPending l ≤ frames s
+
+-- the two kinds of Read's outcome o
+pub data ReadCase (w : List ℕ) (u : ℕ) (s l : List ℕ) (o : Outcome Made) : Type 0 where
+  refuses : {e : Refusal} {s′ : List ℕ} → ReadLacks w u s l e s′ → o ≡ whole (Refused e) w s′ → ReadCase w u s l o
+  lays : {t : Tree} → ReadHas w u s l t → o ≡ laid w u s t → ReadCase w u s l o
+
+none-made : (w : List ℕ) (u : ℕ) (s : List ℕ) (e : Refusal) → stopped (Refused e) (record { words = w; used = u }) u s ≡ whole (Refused e) w (zeros s)
+unfolding stopped
+none-made w u s e = rw (cleared-none w (u * 2))
+
+module _ (w : List ℕ) (u : ℕ) (s l : List ℕ) where
+  -- Read's outcome is of one kind or the other.
+  pub read-case : ReadCase w u s l (read w u s l)
+  unfolding read readTree
+  read-case = go (atEntry true w u s) (readable l) refl refl
+    where
+      go : (a : Option Refusal) (r : Option Tree) → atEntry true w u s ≡ a → readable l ≡ r
+          → ReadCase w u s l (unless a (λ e. whole (Refused e) w s) (readTree w u s l r))
+      go (some e) r p q = refuses (at-entry p) refl
+      go none none p q = refuses (no-text (entered true w u s p) q) refl
+      go none (some t) p q = room (ltb (capacity w - u) (length l)) (ltb (frames s) (mostPending l)) refl refl
+        where
+          n : Entered true w u s
+          n = entered true w u s p
+
+          room : (x y : Bool) → ltb (capacity w - u) (length l) ≡ x → ltb (frames s) (mostPending l) ≡ y
+              → ReadCase w u s l (cond x (stopped (Refused Nodes) (record { words = w; used = u }) u s) (cond y (stopped (Refused Frames) (record { words = w; used = u }) u s) (laid w u s t)))
+          room true y f g = refuses (no-nodes n (readable-some l t q) (ltb-true (capacity w - u) (length l) f)) (none-made w u s Nodes)
+          room false true f g =
+              refuses (no-frames n (readable-some l t q) (ltb-false (capacity w - u) (length l) f) (ltb-true (frames s) (mostPending l) g)) (none-made w u s Frames)
+          room false false f g =
+              let h = ltb-false (capacity w - u) (length l) f in
+              lays (record { entered = n; readable-as = readable-some l t q; nodes-enough = omega (arith, n .table .within); frames-enough = ltb-false (frames s) (mostPending l) g }) refl
+
+  -- "Read, Translate and Label meet 8 and 9 before they make a node": no refusal of Read changes a table word.
+  pub read-refused : (e : Refusal) → read w u s l .answer ≡ Refused e → read w u s l .table ≡ w
+  read-refused e q = go read-case
+    where
+      go : ReadCase w u s l (read w u s l) → read w u s l .table ≡ w
+      go (refuses k r) = cc
+      go (lays {t} h r) = zero-one (cc (laid-answer w u s t))
+
+  -- "Numbers 1 to 6 [..] leave lent memory as found. Numbers 7 to 10 set to 0 [..] the whole stack": a refusal comes only on its condition, and leaves
+  -- the stack so.
+  pub read-lacks : (e : Refusal) → read w u s l .answer ≡ Refused e → ReadLacks w u s l e (read w u s l .stack)
+  read-lacks e q = go read-case
+    where
+      go : ReadCase w u s l (read w u s l) → ReadLacks w u s l e (read w u s l .stack)
+      go (refuses {e = f} {s′} k r) =
+          let a : read w u s l .stack ≡ s′ = cc in
+          let b : f ≡ e = cc in
+          rw (a, ← b) k
+      go (lays {t} h r) = zero-one (cc (laid-answer w u s t))
+
+  -- On an entered table, with a whole text of at most 65,535 bytes, a node for each digit and a frame for each tree pending, no refusal comes.
+  pub read-lays : (t : Tree) → ReadHas w u s l t → read w u s l ≡ laid w u s t
+  unfolding read readTree
+  read-lays t h =
+      rw (enters (h .entered), some-readable (h .readable-as), le-ltb (capacity w - u) (length l) (omega arith), le-ltb (frames s) (mostPending l) (h .frames-enough))
+
+  -- "Digit p of n becomes node used + n − 1 − p": digit 0 is the node that is given.
+  pub read-limits : (t : Tree) → ReadHas w u s l t → read w u s l .answer ≡ Node (u + length l - 1) (u + length l)
+  read-limits t h = rw (← text-size (h .readable-as), read-lays t h) (laid-answer w u s t)
+
+-- What a node v that Read gave is: it has the tree of the text, old nodes keep their trees, and "success also sets the stack to 0".
+pub record Reads (w : List ℕ) (u : ℕ) (s l : List ℕ) (v u′ : ℕ) : Type 0 where
+  pub entered : Entered true w u s
+  pub tree : Tree
+  pub whole-text : treeOf l ≡ some tree
+  pub had : ReadHas w u s l tree
+  pub laid-is : read w u s l ≡ laid w u s tree
+  pub node-is : v + 1 ≡ u + length l
+  pub used-is : u′ ≡ u + length l
+  pub places : Places (record { words = w; used = u }) (record { table = record { words = read w u s l .table; used = u′ }; node = v }) tree
+  pub stack : read w u s l .stack ≡ zeros s
+
+-- "Read a text into the table": where Read gives a node, all of this holds.
+pub read-gives : (w : List ℕ) (u : ℕ) (s l : List ℕ) (v u′ : ℕ) → read w u s l .answer ≡ Node v u′ → Reads w u s l v u′
+read-gives w u s l v u′ q = go (read-case w u s l)
+  where
+    go : ReadCase w u s l (read w u s l) → Reads w u s l v u′
+    go (refuses k r) = zero-one (cc)
+    go (lays {t} h r) =
+        let n = text-size (h .readable-as) in
+        let g = laid-gives w u s t v u′ (h .entered .table) (omega (arith, h .nodes-enough)) (cc) in
+        record {
+          entered = h .entered;
+          tree = t;
+          whole-text = h .readable-as .tree-of;
+          had = h;
+          laid-is = r;
+          node-is = omega (arith, g .node-is);
+          used-is = omega (arith, g .used-is);
+          places = rw r (g .places);
+          stack = rw r (laid-stack w u s t);
+        }
+
+-- the text of node i's tree begins the digits l
+abbrev pub Begins : List ℕ → ℕ → List ℕ → Type 0
+Begins w i l = (rest : List ℕ) × (l ≡ text (treeAt w i) ++ rest)
+
+begins-kept : {t z : Table} → Sound t → Kept t z → (i : ℕ) → i < t .used → {l : List ℕ} → Begins (t .words) i l → Begins (z .words) i l
+begins-kept s k i h b = (b .0, rw (kept-tree s k i h) (b .1))
+
+begins-more : (w : List ℕ) (i : ℕ) {l : List ℕ} (more : List ℕ) → Begins w i l → Begins w i (l ++ more)
+begins-more w i more b = (b .0 ++ more, rw (b .1) (append-assoc (text (treeAt w i)) (b .0) more))
+
+begins-root : {t : Table} → Sound t → (x : Tree) → t .used + size x ≤ capacity (t .words) → (i : ℕ) → i + 1 ≡ t .used + size x → Begins (lay t x .table .words) i (text x)
+begins-root {t} s x h i e =
+    let j : lay t x .node ≡ i = omega (arith, lay-node t x, lay-used t x) in
+    ([], rw (← j, lay-places s x h .tree) (sym (append-nil (text x))))
+
+digit : {t : Table} → Sound t → (x : Tree) → t .used + size x ≤ capacity (t .words) → (p i : ℕ) → t .used ≤ i → i + p + 1 ≡ t .used + size x
+    → Begins (lay t x .table .words) i (drop p (text x))
+unfolding lay text size
+digit s leaf h zero i l e = begins-root s leaf h i (omega arith)
+digit s (stem x) h zero i l e = begins-root s (stem x) h i (omega arith)
+digit s (fork x y) h zero i l e = begins-root s (fork x y) h i (omega arith)
+digit {t} s leaf h (suc p) i l e = absurd (omega arith)
+digit {t} s (stem x) h (suc p) i l e =
+    let a = lay-places s x (omega arith) in
+    let u = lay-used t x in
+    let b = stem-of (a .fine) (omega (arith, a .extends .kept .same-length)) (has a) in
+    begins-kept (a .fine) (b .extends .kept) i (omega arith) (digit s x (omega arith) p i l (omega arith))
+digit {t} s (fork x y) h (suc p) i l e =
+    go (ltb p (size x)) refl (λ k. digit (a .fine) x room p i (omega (arith, after)) (omega (arith, after))) (λ k. digit s y (omega arith) (p - size x) i l (omega arith))
+  where
+    m : Placed
+    m = lay t y
+
+    n : Placed
+    n = lay (m .table) x
+
+    after : m .table .used ≡ t .used + size y
+    after = lay-used t y
+
+    a : Places t m y
+    a = lay-places s y (omega arith)
+
+    room : m .table .used + size x ≤ capacity (m .table .words)
+    room = omega (arith, after, a .extends .kept .same-length)
+
+    b : Places (m .table) n x
+    b = lay-places (a .fine) x room
+
+    last : n .table .used ≡ t .used + size y + size x
+    last = omega (arith, after, lay-used (m .table) x)
+
+    c : Places (n .table) (make (n .table) (n .node + 1) (m .node + 1)) (fork x y)
+    c =
+        fork-of (b .fine) (omega (arith, last, a .extends .kept .same-length, b .extends .kept .same-length)) (has b)
+        (stays (a .fine) (b .extends .kept) (has a))
+
+    go : (z : Bool) → ltb p (size x) ≡ z → (p < size x → Begins (n .table .words) i (drop p (text x))) → (size x ≤ p → Begins (m .table .words) i (drop (p - size x) (text y)))
+        → Begins (make (n .table) (n .node + 1) (m .node + 1) .table .words) i (drop p (text x ++ text y))
+    go true z f g =
+        let k : p < size x = ltb-true p (size x) z in
+        begins-kept (b .fine) (c .extends .kept) i (omega (arith, last))
+        (rw (drop-append-le p (text x) (text y) (omega (arith, length-text x))) (begins-more (n .table .words) i (text y) (f k)))
+    go false z f g =
+        let k : size x ≤ p = ltb-false p (size x) z in
+        let q : p ≡ length (text x) + (p - size x) = omega (arith, length-text x) in
+        let d : drop p (text x ++ text y) ≡ drop (p - size x) (text y) = ap (λ (j : ℕ). drop j (text x ++ text y)) q ∙ drop-append-add (text x) (text y) (p - size x) in
+        begins-kept (a .fine) (kept-trans (b .extends .kept) (c .extends .kept)) i (omega (arith, after)) (rw d (g k))
+
+-- "Digit p of n becomes node used + n − 1 − p": the tree of that node is the one whose text begins at digit p.
+pub lay-digit : {t : Table} → Sound t → (x : Tree) → t .used + size x ≤ capacity (t .words) → (p : ℕ) → p < size x
+    → (rest : List ℕ) × (drop p (text x) ≡ text (treeAt (lay t x .table .words) (t .used + size x - 1 - p)) ++ rest)
+lay-digit {t} s x h p k = digit s x h p (t .used + size x - 1 - p) (omega arith) (omega arith)
+
+-- "Digit p of n becomes node used + n − 1 − p": the same of the digits that Read was given.
+pub read-digit : (w : List ℕ) (u : ℕ) (s l : List ℕ) {v u′ : ℕ} → Reads w u s l v u′ → (p : ℕ) → p < length l → Begins (read w u s l .table) (u + length l - 1 - p) (drop p l)
+unfolding laid placed
+read-digit w u s l r p k =
+    let n = text-size (r .had .readable-as) in
+    let b = lay-digit (r .entered .table) (r .tree) (omega (arith, r .had .nodes-enough)) p (omega arith) in
+    let e = whole-text l (r .tree) (r .whole-text) in
+    let c : read w u s l .table ≡ lay (record { words = w; used = u }) (r .tree) .table .words = ap (λ (o : Outcome Made). o .table) (r .laid-is) in
+    (b .0, cc (c, e, n, b .1))

@@ -1,0 +1,33 @@
+-- Worked examples of the definitions that no theorem of this crate pins: which refusal comes first at a digit, and when trees are counted.
+-- Assumes nothing.
+use Prim.Native.Nat.{ℕ}
+use mathlib.Core.Path.{_≡_, refl}
+use mathlib.Core.List.{List, [], _∷_, map}
+use Rattle.calculus.specs.Tree.{Tree, leaf, stem, fork}
+use Rattle.table.specs.Refusal.{number, refusedNumbers}
+use Rattle.table.specs.declared.Refusal.the-variants.{Frames, Out}
+use Rattle.ternary.specs.Text.{text, takeLeaf, takeStem, takeFork, takeDigit, pending, count, mostPending}
+use Rattle.ternary.specs.Write.{Room, left, lacks, next, spend, digits, writtenNumbers}
+use Rattle.ternary.specs.declared.Written.the-variants.{Digits, Refused}
+
+-- "A refusal returns its number, used as at entry, and 0 for node number, steps and digits."
+pub answers : (writtenNumbers 5 (Refused Out) ≡ record { refusal = 10; node = 0; used = 5; steps = 0; digits = 0 })
+    × (writtenNumbers 5 (Digits 6) ≡ record { refusal = 0; node = 0; used = 5; steps = 0; digits = 6 })
+unfolding writtenNumbers refusedNumbers number
+answers = (refl, refl)
+
+-- "10 if out is full" comes before "9 if the digit is 2": with no frame, a fork's digit lacks a byte first and a frame then
+pub full-first : (digits 0 0 (fork leaf leaf) 0 ≡ lacks Out) × (digits 0 0 (fork leaf leaf) 1 ≡ lacks Frames)
+unfolding digits spend
+full-first = (refl, refl)
+
+-- a frame is held "by a fork whose second branch is not begun": one frame serves 20200, and two are needed for 22000
+pub one-frame : (digits 1 0 (fork leaf (fork leaf leaf)) 5 ≡ left 0) × (digits 1 0 (fork (fork leaf leaf) leaf) 5 ≡ lacks Frames)
+unfolding digits spend next
+one-frame = (refl, refl)
+
+-- trees pending are counted after each digit: 0 needs one frame, 10 one, 200 two, 20200 two, 22000 three
+pub most : map (λ (t : Tree). mostPending (text t)) (leaf ∷ stem leaf ∷ fork leaf leaf ∷ fork leaf (fork leaf leaf) ∷ fork (fork leaf leaf) leaf ∷ [])
+    ≡ 1 ∷ 1 ∷ 2 ∷ 2 ∷ 3 ∷ []
+unfolding text mostPending pending takeDigit takeLeaf takeStem takeFork count
+most = refl

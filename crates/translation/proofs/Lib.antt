@@ -1,0 +1,2 @@
+pub mod Translates
+pub mod Lacks
