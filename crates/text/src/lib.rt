@@ -75,7 +75,8 @@ fn scan(text: &[u8]) -> Scanned
 pub fn is_text(text: &[u8]) -> bool
     ensures { λ r. ⌜ r ≡ isSome (readable (now (text .entry))) ⌝ }
 {
-    if 65535 < text.len() {
+    let n = text.len();
+    if 65535 < n {
         return false;
     }
     let Scanned::Whole(_) = scan(text) else {
