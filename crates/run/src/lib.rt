@@ -120,9 +120,10 @@ fn apply_all(
     let mut node = job.rule;
     let mut in_use = used;
     let mut steps = 0;
-    let mut i = 0;
-    while i < count {
-        let applied = machine::apply(table, in_use, stack, node, nodes[i], limit - steps);
+    let mut done = 0;
+    while done < count {
+        let argument = nodes[done];
+        let applied = machine::apply(table, in_use, stack, node, argument, limit - steps);
         let Applied::Node {
             node: given,
             used: used_then,
@@ -134,7 +135,7 @@ fn apply_all(
         node = given;
         in_use = used_then;
         steps += taken;
-        i += 1;
+        done += 1;
     }
     write_outcome(table, in_use, stack, out, node, steps)
 }
@@ -158,8 +159,8 @@ fn read_all(
     let mut nodes = [0usize; 8];
     let mut at = from;
     let mut in_use = used;
-    let mut i = 0;
-    while i < count {
+    let mut kept = 0;
+    while kept < count {
         let part = packet::part_at(packet, at);
         let start = part.start;
         let end = part.end;
@@ -171,10 +172,10 @@ fn read_all(
         else {
             return stop(table, in_use, stack, made_refusal(made));
         };
-        nodes[i] = node;
+        nodes[kept] = node;
         at = end;
         in_use = used_then;
-        i += 1;
+        kept += 1;
     }
     apply_all(table, in_use, stack, out, nodes, job)
 }

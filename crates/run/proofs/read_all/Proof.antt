@@ -12,26 +12,26 @@ use Rattle.run.proofs.read_all.Statement.{statement}
 use Rattle.run.proofs.read_all.Tie as tie
 
 abbrev Inv-loop : tie.InvT-loop
-Inv-loop table₀ used stack₀ out packet from job count nodes₀ at₀ in-use₀ i₀ table stack nodes at in-use i = Reading packet count out (λ ns w u s. applies ns (job .limit) w u s out (job .rule) 0) table₀ used stack₀ from table stack nodes at in-use i
+Inv-loop table₀ used stack₀ out packet from job count nodes₀ at₀ in-use₀ kept₀ table stack nodes at in-use kept = Reading packet count out (λ ns w u s. applies ns (job .limit) w u s out (job .rule) 0) table₀ used stack₀ from table stack nodes at in-use kept
 
 abbrev μ-loop : tie.MeasureT-loop
-μ-loop table₀ used stack₀ out packet from job count nodes₀ at₀ in-use₀ i₀ table stack nodes at in-use i = count - i
+μ-loop table₀ used stack₀ out packet from job count nodes₀ at₀ in-use₀ kept₀ table stack nodes at in-use kept = count - kept
 
 loop-holds : tie.Need-loop-holds Inv-loop μ-loop
 loop-holds c = let e : c .before .before .before .before .args .job .count - 0 ≡ c .before .before .before .before .args .job .count = omega arith in
     record { inside = omega arith; stand = rw e (c .before .before .before .before .pre .2); room = c .before .before .before .before .pre .0; same-table = refl; same-stack = refl; eight = refl; rest = rw e }
 
 part-at-requires : tie.Need-part-at-requires Inv-loop μ-loop
-part-at-requires c κs = let n = next-field (c .before .before .before .before .before .before .args .packet .now) (c .before .loop .at) (c .before .before .before .before .before .before .args .job .count) (c .before .loop .i) (c .loop-test .taken) (c .before .loop .inv .stand) in omega (arith, n .stands)
+part-at-requires c κs = let n = next-field (c .before .before .before .before .before .before .args .packet .now) (c .before .loop .at) (c .before .before .before .before .before .before .args .job .count) (c .before .loop .kept) (c .loop-test .taken) (c .before .loop .inv .stand) in omega (arith, n .stands)
 
 sub-read : tie.Need-sub-read Inv-loop μ-loop
-sub-read c = let n = next-field (c .before .before .before .before .before .before .before .before .before .args .packet .now) (c .before .before .before .before .loop .at) (c .before .before .before .before .before .before .before .before .before .args .job .count) (c .before .before .before .before .loop .i) (c .before .before .before .loop-test .taken) (c .before .before .before .before .loop .inv .stand) in rw (c .before .before .part-at .ensures) (omega (arith, n .stands))
+sub-read c = let n = next-field (c .before .before .before .before .before .before .before .before .before .args .packet .now) (c .before .before .before .before .loop .at) (c .before .before .before .before .before .before .before .before .before .args .job .count) (c .before .before .before .before .loop .kept) (c .before .before .before .loop-test .taken) (c .before .before .before .before .loop .inv .stand) in rw (c .before .before .part-at .ensures) (omega (arith, n .stands))
 
 part-read-start : tie.Need-part-read-start Inv-loop μ-loop
-part-read-start c = let n = next-field (c .before .before .before .before .before .before .before .before .before .args .packet .now) (c .before .before .before .before .loop .at) (c .before .before .before .before .before .before .before .before .before .args .job .count) (c .before .before .before .before .loop .i) (c .before .before .before .loop-test .taken) (c .before .before .before .before .loop .inv .stand) in rw (c .before .before .part-at .ensures) (omega (arith, n .stands))
+part-read-start c = let n = next-field (c .before .before .before .before .before .before .before .before .before .args .packet .now) (c .before .before .before .before .loop .at) (c .before .before .before .before .before .before .before .before .before .args .job .count) (c .before .before .before .before .loop .kept) (c .before .before .before .loop-test .taken) (c .before .before .before .before .loop .inv .stand) in rw (c .before .before .part-at .ensures) (omega (arith, n .stands))
 
 part-read-end : tie.Need-part-read-end Inv-loop μ-loop
-part-read-end c = let n = next-field (c .before .before .before .before .before .before .before .before .before .args .packet .now) (c .before .before .before .before .loop .at) (c .before .before .before .before .before .before .before .before .before .args .job .count) (c .before .before .before .before .loop .i) (c .before .before .before .loop-test .taken) (c .before .before .before .before .loop .inv .stand) in rw (c .before .before .part-at .ensures) (omega (arith, n .stands))
+part-read-end c = let n = next-field (c .before .before .before .before .before .before .before .before .before .args .packet .now) (c .before .before .before .before .loop .at) (c .before .before .before .before .before .before .before .before .before .args .job .count) (c .before .before .before .before .loop .kept) (c .before .before .before .loop-test .taken) (c .before .before .before .before .loop .inv .stand) in rw (c .before .before .part-at .ensures) (omega (arith, n .stands))
 
 read-requires : tie.Need-read-requires Inv-loop μ-loop
 read-requires c κs = search needs
@@ -55,7 +55,7 @@ same-length-2 : tie.Need-same-length-2 Inv-loop μ-loop
 same-length-2 c = c .before .before .before .before .stop .kept .1 .1 .0 ∙ c .before .before .before .before .before .before .before .before .before .before .before .before .before .before .read .kept .1 .1 .0 ∙ c .before .before .before .before .before .before .before .before .before .before .before .before .before .before .before .before .before .before .before .before .loop .inv .same-stack
 
 returns : tie.Need-returns Inv-loop μ-loop
-returns c = reads-stop (c .before .before .before .before .before .before .before .before .before .before .before .before .before .before .before .before .before .before .before .before .before .before .before .before .before .args .packet .now) (c .before .before .before .before .before .before .before .before .before .before .before .before .before .before .before .before .before .before .before .before .before .before .before .before .before .args .job .count) (c .before .before .before .before .before .before .before .before .before .before .before .before .before .before .before .before .before .before .before .before .before .before .before .before .before .args .out .now) (λ ns w u s. applies ns (c .before .before .before .before .before .before .before .before .before .before .before .before .before .before .before .before .before .before .before .before .before .before .before .before .before .args .job .limit) w u s (c .before .before .before .before .before .before .before .before .before .before .before .before .before .before .before .before .before .before .before .before .before .before .before .before .before .args .out .now) (c .before .before .before .before .before .before .before .before .before .before .before .before .before .before .before .before .before .before .before .before .before .before .before .before .before .args .job .rule) 0) (c .before .before .before .before .before .before .before .before .before .before .before .before .before .before .before .before .before .before .before .before .loop .at) (c .before .before .before .before .before .before .before .before .before .before .before .before .before .before .before .before .before .before .before .before .loop .i) (c .before .before .before .before .before .before .before .before .before .before .before .before .before .before .before .before .before .before .before .before .loop .nodes) (c .before .before .before .before .before .before .before .before .before .before .before .before .before .before .before .before .before .before .before .before .loop .table) (c .before .before .before .before .before .before .before .before .before .before .before .before .before .before .before .before .before .before .before .before .loop .in-use) (c .before .before .before .before .before .before .before .before .before .before .before .before .before .before .before .before .before .before .before .before .loop .stack) (c .before .before .before .before .before .before .before .before .before .before .before .before .before .before .before .before .before .before .before .loop-test .taken) (c .before .before .before .before .before .before .before .before .before .before .before .before .before .before .before .before .before .before .before .before .loop .inv .stand) (rw (c .before .before .before .before .before .before .before .before .before .before .before .before .before .before .before .before .before .before .part-at .ensures, part-value) at (c .before .before .before .before .before .before .before .before .before .before .before .before .before .before .read .ensures)) (c .before .before .before .before .before .made-refusal .ensures) (c .before .before .before .before .stop .ensures _) ∙ c .before .before .before .before .before .before .before .before .before .before .before .before .before .before .before .before .before .before .before .before .loop .inv .rest
+returns c = reads-stop (c .before .before .before .before .before .before .before .before .before .before .before .before .before .before .before .before .before .before .before .before .before .before .before .before .before .args .packet .now) (c .before .before .before .before .before .before .before .before .before .before .before .before .before .before .before .before .before .before .before .before .before .before .before .before .before .args .job .count) (c .before .before .before .before .before .before .before .before .before .before .before .before .before .before .before .before .before .before .before .before .before .before .before .before .before .args .out .now) (λ ns w u s. applies ns (c .before .before .before .before .before .before .before .before .before .before .before .before .before .before .before .before .before .before .before .before .before .before .before .before .before .args .job .limit) w u s (c .before .before .before .before .before .before .before .before .before .before .before .before .before .before .before .before .before .before .before .before .before .before .before .before .before .args .out .now) (c .before .before .before .before .before .before .before .before .before .before .before .before .before .before .before .before .before .before .before .before .before .before .before .before .before .args .job .rule) 0) (c .before .before .before .before .before .before .before .before .before .before .before .before .before .before .before .before .before .before .before .before .loop .at) (c .before .before .before .before .before .before .before .before .before .before .before .before .before .before .before .before .before .before .before .before .loop .kept) (c .before .before .before .before .before .before .before .before .before .before .before .before .before .before .before .before .before .before .before .before .loop .nodes) (c .before .before .before .before .before .before .before .before .before .before .before .before .before .before .before .before .before .before .before .before .loop .table) (c .before .before .before .before .before .before .before .before .before .before .before .before .before .before .before .before .before .before .before .before .loop .in-use) (c .before .before .before .before .before .before .before .before .before .before .before .before .before .before .before .before .before .before .before .before .loop .stack) (c .before .before .before .before .before .before .before .before .before .before .before .before .before .before .before .before .before .before .before .loop-test .taken) (c .before .before .before .before .before .before .before .before .before .before .before .before .before .before .before .before .before .before .before .before .loop .inv .stand) (rw (c .before .before .before .before .before .before .before .before .before .before .before .before .before .before .before .before .before .before .part-at .ensures, part-value) at (c .before .before .before .before .before .before .before .before .before .before .before .before .before .before .read .ensures)) (c .before .before .before .before .before .made-refusal .ensures) (c .before .before .before .before .stop .ensures _) ∙ c .before .before .before .before .before .before .before .before .before .before .before .before .before .before .before .before .before .before .before .before .loop .inv .rest
 
 mul-nodes : tie.Need-mul-nodes Inv-loop μ-loop
 mul-nodes c = omega (arith, c .before .before .before .before .before .before .before .before .before .before .before .before .before .before .before .before .before .before .pre .1)
@@ -63,15 +63,15 @@ mul-nodes c = omega (arith, c .before .before .before .before .before .before .b
 array-write-nodes : tie.Need-array-write-nodes Inv-loop μ-loop
 array-write-nodes c = omega (arith, c .before .before .before .before .before .before .before .before .before .before .before .before .before .before .before .before .before .before .pre .1)
 
-add-i : tie.Need-add-i Inv-loop μ-loop
-add-i c = omega (arith, c .before .before .before .before .before .before .before .before .before .before .before .before .before .before .before .before .before .before .pre .1)
+add-kept : tie.Need-add-kept Inv-loop μ-loop
+add-kept c = omega (arith, c .before .before .before .before .before .before .before .before .before .before .before .before .before .before .before .before .before .before .pre .1)
 
 loop-less : tie.Need-loop-less Inv-loop μ-loop
 loop-less c = omega arith
 
 loop-again : tie.Need-loop-again Inv-loop μ-loop
 loop-again c =
-    let n = next-field (c .before .before .before .before .before .before .before .before .before .before .before .before .before .before .before .before .before .before .args .packet .now) (c .before .before .before .before .before .before .before .before .before .before .before .before .before .loop .at) (c .before .before .before .before .before .before .before .before .before .before .before .before .before .before .before .before .before .before .args .job .count) (c .before .before .before .before .before .before .before .before .before .before .before .before .before .loop .i) (c .before .before .before .before .before .before .before .before .before .before .before .before .loop-test .taken) (c .before .before .before .before .before .before .before .before .before .before .before .before .before .loop .inv .stand) in
+    let n = next-field (c .before .before .before .before .before .before .before .before .before .before .before .before .before .before .before .before .before .before .args .packet .now) (c .before .before .before .before .before .before .before .before .before .before .before .before .before .loop .at) (c .before .before .before .before .before .before .before .before .before .before .before .before .before .before .before .before .before .before .args .job .count) (c .before .before .before .before .before .before .before .before .before .before .before .before .before .loop .kept) (c .before .before .before .before .before .before .before .before .before .before .before .before .loop-test .taken) (c .before .before .before .before .before .before .before .before .before .before .before .before .before .loop .inv .stand) in
     record {
       inside = omega arith;
       stand = rw (c .before .before .before .before .before .before .before .before .before .before .before .part-at .ensures) (n .stand);
@@ -81,7 +81,7 @@ loop-again c =
       eight = rw length-set (c .before .before .before .before .before .before .before .before .before .before .before .before .before .loop .inv .eight);
       rest =
           rw (c .before .before .before .before .before .before .before .before .before .before .before .part-at .ensures)
-          (reads-next (c .before .before .before .before .before .before .before .before .before .before .before .before .before .before .before .before .before .before .args .packet .now) (c .before .before .before .before .before .before .before .before .before .before .before .before .before .before .before .before .before .before .args .job .count) (c .before .before .before .before .before .before .before .before .before .before .before .before .before .before .before .before .before .before .args .out .now) (λ ns w u s. applies ns (c .before .before .before .before .before .before .before .before .before .before .before .before .before .before .before .before .before .before .args .job .limit) w u s (c .before .before .before .before .before .before .before .before .before .before .before .before .before .before .before .before .before .before .args .out .now) (c .before .before .before .before .before .before .before .before .before .before .before .before .before .before .before .before .before .before .args .job .rule) 0) (c .before .before .before .before .before .before .before .before .before .before .before .before .before .loop .at) (c .before .before .before .before .before .before .before .before .before .before .before .before .before .loop .i) (c .before .before .before .before .before .before .before .before .before .before .before .before .before .loop .nodes) (c .before .before .before .before .before .before .before .before .before .before .before .before .before .loop .table) (c .before .before .before .before .before .before .before .before .before .before .before .before .before .loop .in-use) (c .before .before .before .before .before .before .before .before .before .before .before .before .before .loop .stack) (c .before .before .before .before .before .before .before .before .before .before .before .before .loop-test .taken) (c .before .before .before .before .before .before .before .before .before .before .before .before .before .loop .inv .stand) (rw (c .before .before .before .before .before .before .before .before .before .before .before .part-at .ensures, part-value) at (c .before .before .before .before .before .before .before .read .ensures)) (omega (arith, c .before .before .before .before .before .before .before .before .before .before .before .before .before .before .before .before .before .before .pre .1, c .before .before .before .before .before .before .before .before .before .before .before .before .before .loop .inv .eight)) (c .before .made .given .1) ∙ c .before .before .before .before .before .before .before .before .before .before .before .before .before .loop .inv .rest);
+          (reads-next (c .before .before .before .before .before .before .before .before .before .before .before .before .before .before .before .before .before .before .args .packet .now) (c .before .before .before .before .before .before .before .before .before .before .before .before .before .before .before .before .before .before .args .job .count) (c .before .before .before .before .before .before .before .before .before .before .before .before .before .before .before .before .before .before .args .out .now) (λ ns w u s. applies ns (c .before .before .before .before .before .before .before .before .before .before .before .before .before .before .before .before .before .before .args .job .limit) w u s (c .before .before .before .before .before .before .before .before .before .before .before .before .before .before .before .before .before .before .args .out .now) (c .before .before .before .before .before .before .before .before .before .before .before .before .before .before .before .before .before .before .args .job .rule) 0) (c .before .before .before .before .before .before .before .before .before .before .before .before .before .loop .at) (c .before .before .before .before .before .before .before .before .before .before .before .before .before .loop .kept) (c .before .before .before .before .before .before .before .before .before .before .before .before .before .loop .nodes) (c .before .before .before .before .before .before .before .before .before .before .before .before .before .loop .table) (c .before .before .before .before .before .before .before .before .before .before .before .before .before .loop .in-use) (c .before .before .before .before .before .before .before .before .before .before .before .before .before .loop .stack) (c .before .before .before .before .before .before .before .before .before .before .before .before .loop-test .taken) (c .before .before .before .before .before .before .before .before .before .before .before .before .before .loop .inv .stand) (rw (c .before .before .before .before .before .before .before .before .before .before .before .part-at .ensures, part-value) at (c .before .before .before .before .before .before .before .read .ensures)) (omega (arith, c .before .before .before .before .before .before .before .before .before .before .before .before .before .before .before .before .before .before .pre .1, c .before .before .before .before .before .before .before .before .before .before .before .before .before .loop .inv .eight)) (c .before .made .given .1) ∙ c .before .before .before .before .before .before .before .before .before .before .before .before .before .loop .inv .rest);
     }
 
 apply-all-requires : tie.Need-apply-all-requires Inv-loop μ-loop
@@ -97,7 +97,7 @@ same-length-5 : tie.Need-same-length-5 Inv-loop μ-loop
 same-length-5 c = c .before .before .before .before .before .before .apply-all .kept .1 .1 .1 .0
 
 returns-2 : tie.Need-returns-2 Inv-loop μ-loop
-returns-2 c = c .before .before .before .before .before .before .apply-all .ensures ∙ reads-end (c .before .before .before .before .before .before .before .before .before .before .before .before .before .before .before .before .args .packet .now) (c .before .before .before .before .before .before .before .before .before .before .before .before .before .before .before .before .args .job .count) (c .before .before .before .before .before .before .before .before .before .before .before .before .before .before .before .before .args .out .now) (λ ns w u s. applies ns (c .before .before .before .before .before .before .before .before .before .before .before .before .before .before .before .before .args .job .limit) w u s (c .before .before .before .before .before .before .before .before .before .before .before .before .before .before .before .before .args .out .now) (c .before .before .before .before .before .before .before .before .before .before .before .before .before .before .before .before .args .job .rule) 0) (c .before .before .before .before .before .before .before .before .before .before .before .loop .at) (c .before .before .before .before .before .before .before .before .before .before .before .loop .i) (c .before .before .before .before .before .before .before .before .before .before .before .loop .nodes) (c .before .before .before .before .before .before .before .before .before .before .before .loop .table) (c .before .before .before .before .before .before .before .before .before .before .before .loop .in-use) (c .before .before .before .before .before .before .before .before .before .before .before .loop .stack) (c .before .before .before .before .before .before .before .before .before .before .before .loop .inv .inside) (c .before .before .before .before .before .before .before .before .before .before .loop-test .left) ∙ c .before .before .before .before .before .before .before .before .before .before .before .loop .inv .rest
+returns-2 c = c .before .before .before .before .before .before .apply-all .ensures ∙ reads-end (c .before .before .before .before .before .before .before .before .before .before .before .before .before .before .before .before .args .packet .now) (c .before .before .before .before .before .before .before .before .before .before .before .before .before .before .before .before .args .job .count) (c .before .before .before .before .before .before .before .before .before .before .before .before .before .before .before .before .args .out .now) (λ ns w u s. applies ns (c .before .before .before .before .before .before .before .before .before .before .before .before .before .before .before .before .args .job .limit) w u s (c .before .before .before .before .before .before .before .before .before .before .before .before .before .before .before .before .args .out .now) (c .before .before .before .before .before .before .before .before .before .before .before .before .before .before .before .before .args .job .rule) 0) (c .before .before .before .before .before .before .before .before .before .before .before .loop .at) (c .before .before .before .before .before .before .before .before .before .before .before .loop .kept) (c .before .before .before .before .before .before .before .before .before .before .before .loop .nodes) (c .before .before .before .before .before .before .before .before .before .before .before .loop .table) (c .before .before .before .before .before .before .before .before .before .before .before .loop .in-use) (c .before .before .before .before .before .before .before .before .before .before .before .loop .stack) (c .before .before .before .before .before .before .before .before .before .before .before .loop .inv .inside) (c .before .before .before .before .before .before .before .before .before .before .loop-test .left) ∙ c .before .before .before .before .before .before .before .before .before .before .before .loop .inv .rest
 
 pub read-all-spec : {M : Type 1} → statement M
 read-all-spec =
@@ -120,7 +120,7 @@ read-all-spec =
     returns
     mul-nodes
     array-write-nodes
-    add-i
+    add-kept
     loop-less
     loop-again
     apply-all-requires
