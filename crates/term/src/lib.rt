@@ -1,7 +1,8 @@
-// A rule's bytes to its tree: Translate. The definitions are in specs/.
+// A rule's bytes to its tree: Translate. The definitions are in specs/, the laws that callers cite in proofs/. Assumes nothing.
 //
-// A term without abstraction is a run of words in the lent stack, two words for a leaf less one, function part before argument. An abstraction
-// is written into the words of the nodes that are not made yet, and copied back; then the nodes are made over these words.
+// A term without abstraction is a run of words in the lent stack: n leaves and variables take 2n − 1 words, and an application's word says how
+// long its function part is, so that nothing is scanned twice. An abstraction is written into the table words of nodes that are not made yet,
+// and copied back over its body; at the end the nodes are made over these words. The whole rule has one word less than its nodes have.
 ghost use mathlib.Core.Path.{_≡_};
 ghost use Prim.Native.Nat.{ℕ, _+_, _-_, _<_, _≤_};
 ghost use mathlib.Core.List.{[], _∷_};
@@ -23,13 +24,13 @@ use table::Made;
 use table::NewNode;
 use table::Refusal;
 
-// What reading a term gives: the place after it, 0 where no term is, and what it counts.
+// What reading a term gives: the place after it, 0 where no term is, and what it counts towards the size of the tree.
 struct Measured {
     next: usize,
     weight: usize,
 }
 
-// What a leaf counts under `depth` abstractions.
+// What a leaf counts under `depth` abstractions: each makes it five.
 fn unit(depth: usize) -> usize
     requires { ⌜ depth ≤ 16 ⌝ }
     ensures { λ r. ⌜ r ≡ unit depth ⌝ }
@@ -76,7 +77,7 @@ fn measure_atom(bytes: &[u8], at: usize, depth: usize) -> Measured
     nothing()
 }
 
-// The term that starts at `at` under `depth` abstractions.
+// The term that starts at `at` under `depth` abstractions. Its size is counted in the same pass; under 16 abstractions no count wraps.
 fn measure(bytes: &[u8], at: usize, depth: usize) -> Measured
     requires { ⌜ (length (now bytes) ≤ 4096) × (depth ≤ 16) ⌝ }
     ensures { λ r. ⌜ ((n : ℕ) → length (now (bytes .entry)) - at ≤ n → r ≡ measured at depth (parse n depth (drop at (now (bytes .entry))))) ⌝ }
