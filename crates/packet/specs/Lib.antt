@@ -1,1 +1,2 @@
 pub mod Packet
+pub mod Code

@@ -116,8 +116,8 @@ fn measure(bytes: &[u8], at: usize, depth: usize) -> Measured
     measure_atom(bytes, at, depth)
 }
 
-// How many nodes the tree of the rule has; 0 where the bytes are no rule.
-fn rule_size(bytes: &[u8]) -> usize
+// How many nodes the tree of the rule has; 0 where the bytes are no rule. Nothing is made, and no more is done than to read the bytes once.
+pub fn rule_size(bytes: &[u8]) -> usize
     ensures { λ r. ⌜ r ≡ sizeOf (rule (now (bytes .entry))) ⌝ }
 {
     let n = bytes.len();

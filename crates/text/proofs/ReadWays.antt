@@ -1,7 +1,7 @@
 -- Laws of Read's outcome, one for each way that its code goes. Assumes nothing.
 use Prim.Native.Nat.{ℕ, _+_, _-_, _*_, _/_, _≤_, _<_}
 use mathlib.Core.Path.{_≡_, refl, sym, ap, ap₂, _∙_}
-use mathlib.Core.Bool.{true}
+use mathlib.Core.Bool.{Bool, true, false}
 use mathlib.Core.List.{List}
 use mathlib.Core.Option.{Option, none, some}
 use native.Mathlib.Omega.{arith}
@@ -19,7 +19,7 @@ use Rattle.table.proofs.Making.{lay-node, lay-used, size-pos}
 use Rattle.text.specs.Text.{treeOf, mostPending}
 use Rattle.text.specs.Read.{readable, readTree, read}
 use Rattle.text.specs.declared.Scanned.the-variants.{Whole, Broken}
-use Rattle.text.specs.Code.{ScanSays, LaysText, laysAs}
+use Rattle.text.specs.Code.{isSome, ScanSays, LaysText, laysAs}
 
 module _ (w : List ℕ) (u : ℕ) (s l : List ℕ) where
   module _ (m : ℕ) (q : ScanSays l (Whole m)) where
@@ -79,3 +79,18 @@ module _ (w : List ℕ) (u : ℕ) (s l : List ℕ) where
       pub is-read : readTree w u s l (treeOf l) ≡ read w u s l
       unfolding read readable
       is-read = rw (← q, le-leb (length l) 65535 h)
+
+-- the test of a text
+module _ (l : List ℕ) where
+  pub test-long : 65535 < length l → false ≡ isSome (readable l)
+  unfolding readable isSome
+  test-long h = rw (lt-leb (length l) 65535 h)
+
+  module _ (h : length l ≤ 65535) where
+    pub test-broken : ScanSays l Broken → false ≡ isSome (readable l)
+    unfolding readable isSome ScanSays
+    test-broken e = rw (le-leb (length l) 65535 h, e)
+
+    pub test-whole : (m : ℕ) → ScanSays l (Whole m) → true ≡ isSome (readable l)
+    unfolding readable isSome ScanSays
+    test-whole m q = rw (le-leb (length l) 65535 h, q .1)

@@ -8,10 +8,10 @@ ghost use Rattle.calculus.specs.Tree.{Tree};
 ghost use Rattle.table.specs.Nodes.{Table, Sound, treeAt};
 ghost use Rattle.table.specs.Outcome.{whole, frames};
 ghost use Rattle.text.specs.Text.{text, count, takeDigit, treeOf};
-ghost use Rattle.text.specs.Read.{read, readTree};
+ghost use Rattle.text.specs.Read.{readable, read, readTree};
 ghost use Rattle.text.specs.Write.{digits};
 ghost use Rattle.text.specs.Write as writing;
-ghost use Rattle.text.specs.Code.{leafDigit, forkDigit, digitWith, Stands, StandsSome, DigitSays, roomOf, FitsIn, ScanSays, LaidBy, TakesDigit, LaysText, laysAs};
+ghost use Rattle.text.specs.Code.{leafDigit, forkDigit, digitWith, Stands, StandsSome, DigitSays, roomOf, FitsIn, ScanSays, LaidBy, TakesDigit, LaysText, laysAs, isSome};
 use table::Checked;
 use table::Made;
 use table::NewNode;
@@ -74,6 +74,19 @@ fn scan(text: &[u8]) -> Scanned
     } else {
         Scanned::Broken
     }
+}
+
+// Whether a text is one that Read takes.
+pub fn is_text(text: &[u8]) -> bool
+    ensures { λ r. ⌜ r ≡ isSome (readable (now (text .entry))) ⌝ }
+{
+    if 65535 < text.len() {
+        return false;
+    }
+    let Scanned::Whole(_) = scan(text) else {
+        return false;
+    };
+    true
 }
 
 // The nodes laid so far: the count of used nodes, and the trees pending, each with its node in a frame.

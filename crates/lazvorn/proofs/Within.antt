@@ -1,0 +1,17 @@
+-- The text that Run wrote lies within the out bytes. Assumes nothing.
+use Prim.Native.Nat.{ℕ, _+_, _≤_}
+use mathlib.Core.Path.{_≡_, sym, ap, _∙_}
+use mathlib.Core.List.{List}
+use native.Mathlib.Omega.{arith}
+use lib.ListN.{length, drop, length-append}
+use Rattle.text.specs.Text.{text}
+use Rattle.run.specs.Run.{Whole, whole, run}
+use Rattle.run.specs.declared.Ran.{Ran}
+use Rattle.run.specs.declared.Ran.the-variants.{Text}
+use Rattle.run.proofs.Direct.{run-direct}
+
+pub text-within : (w s o l : List ℕ) {a : Ran} {z y x : List ℕ} {k u n : ℕ} → whole a z y x ≡ run w s o l → a ≡ Text k u n → n ≤ length x
+text-within w s o l {a} {z} {y} {x} {k} {u} {n} e q =
+    let r = run-direct w s o l k u n (ap (λ (v : Whole). v .answer) (sym e) ∙ q) in
+    let f = ap length (ap (λ (v : Whole). v .out) e ∙ r .out-is) in
+    omega (arith, r .digits-are, length-append (text (r .tree)) (drop n o))
