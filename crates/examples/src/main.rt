@@ -1,21 +1,24 @@
-// Runs a script of test vectors through the engine's operations and prints one line for each command. Beside it stand the script, `stdin`, and
-// the lines that it must print, `stdout`; both are made from document 01 and source 001 alone. The starred lines of document 01 are in specs/.
+// Runs a script of test vectors through the engine's operations and prints one line for each command. Beside src/ stand the script, `stdin`, and
+// the lines that it must print, `stdout`; both are made from document 01 and source 001, and not from what the engine gives. The starred lines of
+// document 01 are proved in specs/ and proofs/.
 //
 // A command stands on a line of its own, its fields parted by one blank each: a letter, numbers in decimal, texts as they are, bytes in
-// hexadecimal. An empty line and one that begins with # are passed over. Room that a command does not name is ample: 65,536 nodes, 21,845
-// frames, 65,535 out bytes. Where an operation is refused, the line is the refusal's number.
+// hexadecimal. A line that is empty or begins with # is passed over. Bytes may stand in several fields, and N*BYTES is those bytes N times. Room
+// that a command does not name is ample: 65,536 nodes, 21,845 frames, 65,535 out bytes. Where an operation is refused, the line is the refusal's
+// number alone.
 //
 //   r NODES FRAMES TEXT             Read into an empty table: 0, node, used, and the text that Write gives of the node
-//   b NODES FRAMES HEX              the same, the text's bytes in hexadecimal
+//   b NODES FRAMES BYTES            the same, the text in bytes
 //   c NODES FRAMES COUNT PART TAIL  the same of PART, COUNT times, and TAIL: 0, node, used, digits, and 1 if Write gives the same text, else 0
 //   w FRAMES OUT TEXT               Read, then Write: 0, digits, text
 //   s LEVELS FRAMES OUT             Write of a node whose branches are one node, whose branches are one node, and so on to a leaf: 0, digits
-//   t NODES FRAMES HEX              Translate into an empty table: 0, node, used, text
+//   t NODES FRAMES BYTES            Translate into an empty table: 0, node, used, text
 //   a NODES FRAMES LIMIT TREE ..    the first tree applied to the second, that to the third, and so on under one step limit, with so many nodes
-//                                   free: 0, steps, new nodes, text. A tree is a text, or a rule, x and its bytes in hexadecimal; at most eight
+//                                   free: 0, steps, new nodes, text. A tree is a text, or a rule, x and its bytes; at most eight
 //   l NODES TREE TREE               Label of the first tree with the second, with so many nodes free: 0, node, used, text
-//   u LETTER USED A B WORD ..       Read (r) of 0, Write (w) of node A, Translate (t) of 02 00, Apply (a) of A to B, Label (l) of A with B, in a
-//                                   table of these words: what the command of that letter prints; for w 0, digits, text
+//   u LETTER USED A B WORD ..       in a table of these words, Read (r) of 0, Write (w) of node A, Translate (t) of 02 00, Apply (a) of A to B
+//                                   under the limit 100, Label (l) of A with B: what the command of that letter prints
+//   p BYTES                         Run of a packet with the room that the program lends: the program's line
 ghost use mathlib.Core.Path.{_≡_};
 ghost use Prim.Native.Nat.{_+_, _*_, _≤_, _<_};
 ghost use lib.ListN.{length};
@@ -23,6 +26,7 @@ ghost use Rattle.table.specs.Refusal.{number};
 use applying::Applied;
 use libc::STDIN_FILENO;
 use libc::STDOUT_FILENO;
+use running::Ran;
 use table::Made;
 use table::Refusal;
 use ternary::Written;
@@ -127,17 +131,52 @@ fn put(bytes: &mut [u8], at: usize, part: &[u8]) -> usize
     at + room
 }
 
-// A part so many times, and a tail; how many bytes.
-fn repeat(bytes: &mut [u8], count: usize, part: &[u8], tail: &[u8]) -> usize
+// Copies bytes to a place, so many times; the place after them.
+fn repeat(bytes: &mut [u8], from: usize, count: usize, part: &[u8]) -> usize
+    requires { ⌜ from ≤ length (now bytes) ⌝ }
     ensures { λ r. ⌜ r ≤ length (now (bytes .exit)) ⌝ }
 {
-    let mut at = 0;
+    let mut at = from;
     let mut i = 0;
     while i < count {
         at = put(bytes, at, part);
         i += 1;
     }
-    put(bytes, at, tail)
+    at
+}
+
+// Puts the bytes of a field in hexadecimal to a place, or those after N* so many times; the place after them.
+fn put_field(bytes: &mut [u8], at: usize, text: &[u8]) -> usize
+    requires { ⌜ at ≤ length (now bytes) ⌝ }
+    ensures { λ r. ⌜ r ≤ length (now (bytes .exit)) ⌝ }
+{
+    let mut part = [0u8; 4096];
+    let star = bytes::scan::find(text, 0, text.len(), b'*');
+    if star == text.len() {
+        let k = unhex(text, &mut part);
+        return put(bytes, at, &part[0..k]);
+    }
+    let from = star + 1;
+    let k = unhex(&text[from..], &mut part);
+    repeat(bytes, at, value(&text[0..star]), &part[0..k])
+}
+
+// The bytes of a line's fields from one on; how many.
+fn gather(line: &[u8], first: usize, bytes: &mut [u8]) -> usize
+    requires { ⌜ first < 8 ⌝ }
+    ensures { λ r. ⌜ r ≤ length (now (bytes .exit)) ⌝ }
+{
+    let mut at = 0;
+    let mut i = 0;
+    while i < 100 {
+        let text = field(line, first + i);
+        if text.len() == 0 {
+            return at;
+        }
+        at = put_field(bytes, at, text);
+        i += 1;
+    }
+    at
 }
 
 // How many of the `most` words that are there n nodes take.
@@ -280,7 +319,7 @@ fn bytes_command(
     bytes: &mut [u8],
     out: &mut [u8],
 ) {
-    let n = unhex(field(line, 3), bytes);
+    let n = gather(line, 3, bytes);
     let made = read_text(line, &bytes[0..n], table, stack);
     show_made(made, table, stack, out);
 }
@@ -316,7 +355,8 @@ fn repeat_command(
     bytes: &mut [u8],
     out: &mut [u8],
 ) {
-    let n = repeat(bytes, value(field(line, 3)), field(line, 4), field(line, 5));
+    let k = repeat(bytes, 0, value(field(line, 3)), field(line, 4));
+    let n = put(bytes, k, field(line, 5));
     let made = read_text(line, &bytes[0..n], table, stack);
     match made {
         Made::Node { node, used } => {
@@ -406,7 +446,7 @@ fn translate_command(
     bytes: &mut [u8],
     out: &mut [u8],
 ) {
-    let n = unhex(field(line, 3), bytes);
+    let n = gather(line, 3, bytes);
     let t = node_words(value(field(line, 1)), table.len());
     let s = frame_words(value(field(line, 2)), stack.len());
     let made = term::translate(&mut table[0..t], 0, &mut stack[0..s], &bytes[0..n]);
@@ -626,6 +666,43 @@ fn words_command(line: &[u8], table: &mut [u32], stack: &mut [u32], out: &mut [u
     }
 }
 
+fn packet_command(
+    line: &[u8],
+    table: &mut [u32],
+    stack: &mut [u32],
+    bytes: &mut [u8],
+    out: &mut [u8],
+) {
+    let n = gather(line, 1, bytes);
+    let t = node_words(8192, table.len());
+    let s = frame_words(4096, stack.len());
+    let o = least(16384, out.len());
+    let ran = run::run(
+        &mut table[0..t],
+        &mut stack[0..s],
+        &mut out[0..o],
+        &bytes[0..n],
+    );
+    match ran {
+        Ran::Text {
+            steps,
+            used,
+            digits,
+        } => {
+            show(0);
+            show(steps);
+            show(used);
+            show_text(out, digits);
+        }
+        Ran::Refused(refusal) => {
+            show(number_of(refusal));
+            show(0);
+            show(0);
+            show_text(b"-", 1);
+        }
+    }
+}
+
 // Runs the command of a line.
 fn command(line: &[u8], table: &mut [u32], stack: &mut [u32], bytes: &mut [u8], out: &mut [u8]) {
     if line.len() == 0 {
@@ -640,6 +717,7 @@ fn command(line: &[u8], table: &mut [u32], stack: &mut [u32], bytes: &mut [u8], 
         b't' => translate_command(line, table, stack, bytes, out),
         b'a' => apply_command(line, table, stack, bytes, out),
         b'l' => label_command(line, table, stack, bytes, out),
+        b'p' => packet_command(line, table, stack, bytes, out),
         b'u' => words_command(line, table, stack, out),
         _ => (),
     }
@@ -656,7 +734,7 @@ fn play(script: &[u8], table: &mut [u32], stack: &mut [u32], bytes: &mut [u8], o
 }
 
 fn main() {
-    let mut script = [0u8; 262144];
+    let mut script = [0u8; 524288];
     let mut table = [0u32; 131074];
     let mut stack = [0u32; 65538];
     let mut bytes = [0u8; 65536];

@@ -7,10 +7,10 @@ use Rattle.examples.proofs.repeat.Statement.{statement}
 use Rattle.examples.proofs.repeat.Tie as tie
 
 abbrev Inv-loop : tie.InvT-loop
-Inv-loop bytes₀ count part tail at₀ i₀ bytes at i = (at ≤ length bytes) × (length bytes ≡ length bytes₀)
+Inv-loop bytes₀ from count part at₀ i₀ bytes at i = (at ≤ length bytes) × (length bytes ≡ length bytes₀)
 
 abbrev μ-loop : tie.MeasureT-loop
-μ-loop bytes₀ count part tail at₀ i₀ bytes at i = count - i
+μ-loop bytes₀ from count part at₀ i₀ bytes at i = count - i
 
 loop-holds : tie.Need-loop-holds Inv-loop μ-loop
 loop-holds c = search needs
@@ -26,9 +26,6 @@ loop-less c = search needs
 
 loop-again : tie.Need-loop-again Inv-loop μ-loop
 loop-again c = search needs
-
-put-requires-2 : tie.Need-put-requires-2 Inv-loop μ-loop
-put-requires-2 c κs = search needs
 
 same-length : tie.Need-same-length Inv-loop μ-loop
 same-length c = search needs
@@ -47,6 +44,5 @@ repeat-spec =
     add-i
     loop-less
     loop-again
-    put-requires-2
     same-length
     returns)
