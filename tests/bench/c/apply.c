@@ -1,7 +1,8 @@
 /*
  * Apply's machine as a C programmer would write it who trusts the table: words, frames in an array,
  * the limits on steps, nodes and frames, and what a call leaves in memory. It checks neither the
- * table nor the node numbers.
+ * table nor the node numbers, unless CHECKED is defined: then it makes every check that the paper
+ * asks for.
  */
 #include <stddef.h>
 #include <stdint.h>
@@ -13,25 +14,44 @@ void APPLY(uint32_t *table, size_t table_len, size_t used, uint32_t *stack, size
 void APPLY(uint32_t *table, size_t table_len, size_t used, uint32_t *stack, size_t stack_len,
            size_t function, size_t argument, size_t limit, size_t answer[5]) {
     const size_t nodes = table_len / 2, frames = stack_len / 3;
+#ifdef CHECKED
+    size_t refused = 0;
+    if (table_len > 131072 || stack_len > 65536 || used > nodes || limit > 1000000)
+        refused = 1;
+    for (size_t i = 0; refused == 0 && i < used; i++) {
+        const size_t a = table[2 * i], b = table[2 * i + 1];
+        if (a > i || b > i || (a == 0 && b != 0))
+            refused = 2;
+    }
+    if (refused == 0 && (function >= used || argument >= used))
+        refused = 3;
+    if (refused != 0) {
+        answer[0] = refused;
+        answer[1] = 0;
+        answer[2] = used;
+        answer[3] = answer[4] = 0;
+        return;
+    }
+#endif
     size_t made = used, held = 0, steps = 0, refusal = 0;
-    uint32_t f = (uint32_t)function, n = (uint32_t)argument, v = 0;
+    size_t f = function, n = argument, v = 0;
     for (;;) {
         if (steps == limit) {
             refusal = 7;
             break;
         }
-        const uint32_t a = table[2 * f], b = table[2 * f + 1];
+        const size_t a = table[2 * f], b = table[2 * f + 1];
         if (a == 0 || b == 0) {
             /* leaf: the stem of n; stem: the fork of p and n */
             if (made == nodes) {
                 refusal = 8;
                 break;
             }
-            table[2 * made] = a == 0 ? n + 1 : a;
-            table[2 * made + 1] = a == 0 ? 0 : n + 1;
-            v = (uint32_t)made++;
+            table[2 * made] = (uint32_t)(a == 0 ? n + 1 : a);
+            table[2 * made + 1] = (uint32_t)(a == 0 ? 0 : n + 1);
+            v = made++;
         } else {
-            const uint32_t p = table[2 * (a - 1)], q = table[2 * (a - 1) + 1];
+            const size_t p = table[2 * (a - 1)], q = table[2 * (a - 1) + 1];
             if (p == 0) {
                 v = b - 1; /* drop */
             } else {
@@ -43,12 +63,12 @@ void APPLY(uint32_t *table, size_t table_len, size_t used, uint32_t *stack, size
                 steps++;
                 if (q == 0) { /* spread: y to n first */
                     s[0] = 0;
-                    s[1] = p - 1;
-                    s[2] = n;
+                    s[1] = (uint32_t)(p - 1);
+                    s[2] = (uint32_t)n;
                     f = b - 1;
                 } else { /* triage: n to p first */
                     s[0] = 2;
-                    s[1] = q - 1;
+                    s[1] = (uint32_t)(q - 1);
                     f = n;
                     n = p - 1;
                 }
@@ -63,7 +83,7 @@ void APPLY(uint32_t *table, size_t table_len, size_t used, uint32_t *stack, size
             f = s[1];
             n = s[2];
             s[0] = 1;
-            s[1] = v;
+            s[1] = (uint32_t)v;
         } else if (s[0] == 1) { /* then v to w */
             held--;
             f = s[1];

@@ -3,6 +3,7 @@
 //!
 //! `bench [PLOT.svg]`
 
+mod evaluator;
 mod measure;
 mod plain;
 mod plot;
@@ -16,7 +17,7 @@ use std::cell::RefCell;
 use std::hint::black_box;
 use workloads::{answer_of, Workload};
 
-const ROUNDS: usize = 41;
+const ROUNDS: usize = 101;
 
 mod c {
     type Apply = unsafe extern "C" fn(
@@ -32,9 +33,9 @@ mod c {
     );
 
     macro_rules! declare {
-        ($name:ident) => {
+        ($($name:ident),*) => {
             extern "C" {
-                fn $name(
+                $(fn $name(
                     table: *mut u32,
                     table_len: usize,
                     used: usize,
@@ -44,15 +45,15 @@ mod c {
                     argument: usize,
                     limit: usize,
                     answer: *mut [usize; 5],
-                );
+                );)*
             }
         };
     }
 
     #[cfg(gcc)]
-    declare!(apply_gcc);
+    declare!(apply_gcc, apply_gcc_checked);
     #[cfg(clang)]
-    declare!(apply_clang);
+    declare!(apply_clang, apply_clang_checked);
 
     declare!(lazvorn_apply);
 
@@ -64,6 +65,10 @@ mod c {
             ("C, gcc -O3", apply_gcc as Apply),
             #[cfg(clang)]
             ("C, clang -O3", apply_clang as Apply),
+            #[cfg(gcc)]
+            ("C, gcc -O3, same checks", apply_gcc_checked as Apply),
+            #[cfg(clang)]
+            ("C, clang -O3, same checks", apply_clang_checked as Apply),
         ]
     }
 }
@@ -84,15 +89,31 @@ fn rows(what: &str, times: &[Times]) {
 
 fn head(title: &str) {
     println!("\n### {title}\n");
-    println!("| Work | Beside | Engine, µs | Other, µs | Engine's speed beside it | Quartiles |");
+    println!("| Work | Beside | Engine, µs | Other, µs | Speed | Quartiles |");
     println!("|---|---|---|---|---|---|");
 }
 
 fn apply() {
-    head("Apply");
-    for workload in workloads::all() {
-        let what = format!("{} ({} steps)", workload.name, steps(&workload));
-        rows(&what, &applied(workload));
+    println!("\n### Apply\n");
+    for (i, workload) in workloads::all().into_iter().enumerate() {
+        let (name, steps) = (workload.name, steps(&workload));
+        let times = applied(workload);
+        let engine = &times[0];
+        if i == 0 {
+            let others: Vec<&str> = times[1..].iter().map(|other| other.name).collect();
+            println!("| Work | Steps | Engine, µs | {} |", others.join(" | "));
+            println!("|{}", "---|".repeat(times.len() + 2));
+        }
+        let beside = times[1..].iter().map(|other| {
+            let [low, middle, high] = other.speed_of(engine);
+            format!("{middle:.2} ({low:.2} to {high:.2})")
+        });
+        let beside: Vec<String> = beside.collect();
+        let engine = 1e6 * engine.median();
+        println!(
+            "| {name} | {steps} | {engine:.3} | {} |",
+            beside.join(" | ")
+        );
     }
 }
 
@@ -136,6 +157,10 @@ fn applied(workload: Workload) -> Vec<Times> {
         out: 65_535,
         default_limit: 10_000,
     };
+    let (mut table, mut stack) = (workload.table.clone(), workload.stack.clone());
+    let mut out = vec![0; 65_535];
+    let ran = lazvorn::run(&mut table, &mut stack, &mut out, &packet);
+    same_run(&ran, &out, &second::run(&packet, room));
     let cell = RefCell::new(workload);
     let mut contenders: Vec<Contender> = Vec::new();
     for (name, apply) in c::applies() {
@@ -194,6 +219,10 @@ fn regular(digits: usize) -> Vec<u8> {
 fn reading(text: &[u8]) -> Vec<Times> {
     let (mut table, mut stack) = (vec![0; 131_072], vec![0; 65_535]);
     let (mut other_table, mut other_stack) = (table.clone(), stack.clone());
+    let read = lazvorn::read(&mut table, 0, &mut stack, text);
+    let plain = plain::read(&mut other_table, 0, &mut other_stack, text);
+    assert_eq!(answer_of(read), plain);
+    assert!(table == other_table && stack == other_stack);
     rounds(
         vec![
             contender("engine", || {
@@ -214,6 +243,16 @@ fn writing(text: &[u8]) -> Vec<Times> {
     let read = lazvorn::read(&mut table, 0, &mut stack, text);
     let (table, mut out) = (table, vec![0; 65_535]);
     let (mut other_stack, mut other_out) = (stack.clone(), out.clone());
+    let written = lazvorn::write(&table, read.used, &mut stack, read.node, &mut out);
+    let plain = plain::write(
+        &table,
+        read.used,
+        &mut other_stack,
+        read.node,
+        &mut other_out,
+    );
+    assert_eq!(answer_of(written), plain);
+    assert!(out == other_out && stack == other_stack);
     rounds(
         vec![
             contender("engine", || {
@@ -248,6 +287,9 @@ fn translating(rule: &[u8]) -> (usize, Vec<Times>) {
     let (mut other_table, mut other_stack) = (table.clone(), stack.clone());
     let made = lazvorn::translate(&mut table, 0, &mut stack, rule);
     assert_eq!(made.refusal, 0);
+    let plain = plain::translate(&mut other_table, 0, &mut other_stack, rule);
+    assert_eq!(answer_of(made), plain);
+    assert!(table == other_table && stack == other_stack);
     let times = rounds(
         vec![
             contender("engine", || {
@@ -286,10 +328,29 @@ fn texts_and_rules() {
     }
 }
 
+/// The second evaluator gives the engine's steps, nodes and text, or its refusal.
+fn same_run(ran: &lazvorn::Numbers, out: &[u8], second: &Result<second::Outcome, u8>) {
+    match second {
+        Ok(o) => {
+            let text = &out[..ran.digits];
+            assert_eq!(
+                (ran.refusal, ran.steps, ran.used),
+                (0, o.steps as usize, o.used)
+            );
+            assert_eq!(text, o.text.as_bytes());
+        }
+        Err(number) => assert_eq!(ran.refusal, usize::from(*number)),
+    }
+}
+
 fn running(what: &str, cases: &[Case]) {
     let room = packets::PROGRAM;
     let (mut table, mut stack, mut out) =
         (vec![0; room.table], vec![0; room.stack], vec![0; room.out]);
+    for case in cases {
+        let ran = lazvorn::run(&mut table, &mut stack, &mut out, &case.packet);
+        same_run(&ran, &out, &second::run(&case.packet, second::PROGRAM));
+    }
     let times = rounds(
         vec![
             contender("engine", || {
@@ -304,7 +365,7 @@ fn running(what: &str, cases: &[Case]) {
                 }
             }),
         ],
-        ROUNDS / 4,
+        ROUNDS / 8,
     );
     rows(what, &times);
 }
@@ -323,7 +384,7 @@ fn packets() {
 
 /// The engine's median time for one call.
 fn alone<'a>(run: impl FnMut() + 'a) -> f64 {
-    rounds(vec![contender("engine", run)], ROUNDS)[0].median()
+    rounds(vec![contender("engine", run)], ROUNDS / 2)[0].median()
 }
 
 fn growth() -> Vec<plot::Line> {
@@ -383,8 +444,7 @@ fn slope(points: &[(f64, f64)]) -> f64 {
 
 fn print_growth(lines: &[plot::Line]) {
     println!("\n### How time grows with size\n");
-    println!("The whole lent stack is cleared by every call, which a size of 0 pays as well. The second column takes that away: it is what doubling the size adds, for each unit added.\n");
-    println!("| Operation | Size: µs for a call, ns for each unit added since the row before |");
+    println!("| Operation | Size: µs for a call, ns for each unit more than the size before |");
     println!("|---|---|");
     for line in lines {
         let mut cells = Vec::new();

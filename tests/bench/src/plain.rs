@@ -163,27 +163,26 @@ pub fn apply(
         return refused(3, used);
     }
     let (nodes, frames) = (table.len() / 2, stack.len() / 3);
-    let (mut f, mut n) = (function as u32, argument as u32);
+    let (mut f, mut n) = (function, argument);
     let (mut made, mut held, mut steps) = (used, 0, 0);
     let ended = loop {
         if steps == limit {
             break Err(7);
         }
-        let at = 2 * f as usize;
-        let (a, b) = (table[at], table[at + 1]);
+        let (a, b) = (table[2 * f] as usize, table[2 * f + 1] as usize);
         let v;
         if a == 0 || b == 0 {
             if made == nodes {
                 break Err(8);
             }
             let (first, second) = if a == 0 { (n + 1, 0) } else { (a, n + 1) };
-            table[2 * made] = first;
-            table[2 * made + 1] = second;
-            v = made as u32;
+            table[2 * made] = first as u32;
+            table[2 * made + 1] = second as u32;
+            v = made;
             made += 1;
         } else {
-            let at = 2 * (a as usize - 1);
-            let (p, q) = (table[at], table[at + 1]);
+            let at = 2 * (a - 1);
+            let (p, q) = (table[at] as usize, table[at + 1] as usize);
             if p == 0 {
                 v = b - 1;
             } else {
@@ -194,10 +193,10 @@ pub fn apply(
                 held += 1;
                 steps += 1;
                 if q == 0 {
-                    frame.copy_from_slice(&[0, p - 1, n]);
+                    frame.copy_from_slice(&[0, p as u32 - 1, n as u32]);
                     f = b - 1;
                 } else {
-                    frame[..2].copy_from_slice(&[2, q - 1]);
+                    frame[..2].copy_from_slice(&[2, q as u32 - 1]);
                     f = n;
                     n = p - 1;
                 }
@@ -211,23 +210,23 @@ pub fn apply(
         let frame = &mut stack[3 * held - 3..3 * held];
         match frame[0] {
             0 => {
-                (f, n) = (frame[1], frame[2]);
+                (f, n) = (frame[1] as usize, frame[2] as usize);
                 frame[0] = 1;
-                frame[1] = v;
+                frame[1] = v as u32;
             }
             1 => {
-                (f, n) = (frame[1], v);
+                (f, n) = (frame[1] as usize, v);
                 held -= 1;
             }
             _ => {
-                (f, n) = (v, frame[1]);
+                (f, n) = (v, frame[1] as usize);
                 held -= 1;
             }
         }
     };
     stack.fill(0);
     match ended {
-        Ok(v) => [0, v as usize, made, steps, 0],
+        Ok(v) => [0, v, made, steps, 0],
         Err(number) => {
             table[2 * used..2 * made].fill(0);
             refused(number, used)

@@ -9,7 +9,7 @@ pub struct Line {
 const WIDTH: f64 = 760.0;
 const HEIGHT: f64 = 480.0;
 const LEFT: f64 = 80.0;
-const RIGHT: f64 = 130.0;
+const RIGHT: f64 = 40.0;
 const TOP: f64 = 40.0;
 const BOTTOM: f64 = 60.0;
 const COLOURS: [&str; 6] = [
@@ -71,7 +71,7 @@ pub fn svg(title: &str, across: &str, lines: &[Line]) -> String {
         let power = f64::from(power);
         rule(x(x0), y(power), x(x1), y(power), time(power), true);
     }
-    for (line, colour) in lines.iter().zip(COLOURS) {
+    for (row, (line, colour)) in lines.iter().zip(COLOURS).enumerate() {
         let places: Vec<(f64, f64)> = line
             .points
             .iter()
@@ -90,14 +90,15 @@ pub fn svg(title: &str, across: &str, lines: &[Line]) -> String {
                 "<circle cx=\"{x:.1}\" cy=\"{y:.1}\" r=\"3\" fill=\"{colour}\"/>\n"
             ));
         }
-        if let Some((x, y)) = places.last() {
-            svg.push_str(&format!(
-                "<text x=\"{:.1}\" y=\"{:.1}\" fill=\"{colour}\">{}</text>\n",
-                x + 8.0,
-                y + 4.0,
-                line.name
-            ));
-        }
+        // The names stand at the top left, where no line goes.
+        let (at_x, at_y) = (LEFT + 16.0, TOP + 20.0 + 20.0 * row as f64);
+        svg.push_str(&format!(
+            "<rect x=\"{at_x:.1}\" y=\"{:.1}\" width=\"14\" height=\"4\" fill=\"{colour}\"/>\n\
+             <text x=\"{:.1}\" y=\"{at_y:.1}\">{}</text>\n",
+            at_y - 6.0,
+            at_x + 22.0,
+            line.name
+        ));
     }
     svg.push_str("</svg>\n");
     svg

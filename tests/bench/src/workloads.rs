@@ -1,5 +1,6 @@
 //! What is applied to what.
 
+use crate::evaluator::evaluator;
 use crate::plain::Answer;
 use compare::packets::Parts;
 
@@ -47,6 +48,23 @@ pub fn answer_of(numbers: lazvorn::Numbers) -> Answer {
         numbers.steps,
         numbers.digits,
     ]
+}
+
+/// The text of what a rule gives on arguments.
+fn applied(rule: &[u8], arguments: &[Vec<u8>]) -> Vec<u8> {
+    let (mut table, mut stack, mut out) = (vec![0; 131_072], vec![0; 65_535], vec![0; 65_535]);
+    let mut made = lazvorn::translate(&mut table, 0, &mut stack, rule);
+    for text in arguments {
+        let read = lazvorn::read(&mut table, made.used, &mut stack, text);
+        made = lazvorn::apply(
+            &mut table, read.used, &mut stack, made.node, read.node, 1_000_000,
+        );
+        assert_eq!(made.refusal, 0);
+    }
+    let written = lazvorn::write(&table, made.used, &mut stack, made.node, &mut out);
+    assert_eq!(written.refusal, 0);
+    out.truncate(written.digits);
+    out
 }
 
 /// The text of a number of successors of zero.
@@ -138,11 +156,11 @@ pub fn endless(limit: usize) -> Workload {
 }
 
 pub fn all() -> Vec<Workload> {
-    let five = times(5);
+    let (three, five) = (times(3), times(5));
     vec![
         endless(100_000),
         Workload::new(
-            "endless inside an application, cut for want of frames",
+            "endless inside an application, cut for want of nodes",
             STEM_OF_SELF,
             vec![text_of(STEM_OF_SELF)],
             1_000_000,
@@ -152,6 +170,17 @@ pub fn all() -> Vec<Workload> {
             "long evaluation: 5 to the 5th stems",
             &five,
             vec![text_of(&five), text_of(STEM), b"0".to_vec()],
+            1_000_000,
+            MOST,
+        ),
+        Workload::new(
+            "a self-evaluator on the evaluation of 3 to the 3rd stems",
+            IDENTITY,
+            vec![
+                evaluator(),
+                applied(&three, &[text_of(&three), text_of(STEM)]),
+                b"0".to_vec(),
+            ],
             1_000_000,
             MOST,
         ),
@@ -177,4 +206,27 @@ pub fn all() -> Vec<Workload> {
             (8_192, 4_096),
         ),
     ]
+}
+
+#[cfg(test)]
+mod tests {
+    use super::*;
+
+    /// The self-evaluator, and it on itself, give what the program gives.
+    #[test]
+    fn self_evaluator_gives_what_the_program_gives() {
+        let programs = [
+            "0", "10", "200", "21010", "210100", "2100", "22000", "2201000",
+        ];
+        for program in programs {
+            for argument in ["0", "10", "200", "2100"] {
+                let [m, n] = [program, argument].map(|text| text.as_bytes().to_vec());
+                let alone = applied(IDENTITY, &[m.clone(), n.clone()]);
+                let once = applied(IDENTITY, &[evaluator(), m.clone(), n.clone()]);
+                let twice = applied(IDENTITY, &[evaluator(), evaluator(), m, n]);
+                assert_eq!(alone, once, "{program} {argument}");
+                assert_eq!(alone, twice, "{program} {argument}");
+            }
+        }
+    }
 }

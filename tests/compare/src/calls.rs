@@ -232,7 +232,7 @@ fn read(random: &mut Random, noise: &Noise) -> Call {
             let depth = random.within(20_000, 33_000);
             trees::deep(random, depth)
         }
-        1 => vec![b'0'; 65_536],
+        1 => [vec![b'1'; random.near(65_535)], vec![b'0']].concat(),
         2..=120 => trees::wrong_text(random),
         _ => trees::text(random),
     };

@@ -181,13 +181,14 @@ pub fn large_rule(random: &mut Random) -> Vec<u8> {
             bytes
         }
         1 => {
-            // Two bytes an application of the leaf, one for the abstraction and one for the last leaf.
-            let leaves = random.within(2_040, 2_050);
+            // Two bytes an application of the leaf, one for the abstraction and one for the last leaf;
+            // one more where the first leaf is a variable instead.
+            let leaves = random.within(2_046, 2_048);
             let mut bytes = vec![2];
             bytes.extend([1, 0].repeat(leaves));
             bytes.push(0);
             if random.once_in(2) {
-                bytes.splice(1..2, [1, 3, 0]);
+                bytes.splice(2..3, [3, 0]);
             }
             bytes
         }
