@@ -7,27 +7,36 @@ use mathlib.Core.Option.{some, none}
 use native.Mathlib.Omega.{arith}
 use lib.ListN.{length}
 use lib.Dec.{ltb, leb, eqb}
-use borrow.Author.Tests.{eqb-true, eq-eqb, ne-eqb, lt-ltb, le-ltb, lt-leb, le-leb}
+use borrow.Author.Tests.{eqb-true, eqb-false, ne-eqb, lt-ltb, le-ltb, lt-leb, le-leb}
 use Rattle.table.specs.Nodes.{first, second, broken, sound, capacity}
 use Rattle.table.specs.Outcome.{fits, atEntry}
 use Rattle.table.specs.declared.Refusal.the-variants.{Limits, Broken}
 
 -- a node by its words
-pub broken-empty : (i a b : ℕ) → a ≡ 0 → not (eqb b 0) ≡ broken i a b
+pub broken-first : (i a b : ℕ) → i < a → true ≡ broken i a b
 unfolding broken
-broken-empty i a b e = rw (eq-eqb a 0 e, le-ltb i a (omega arith)) (go (eqb b 0) refl)
+broken-first i a b h = rw (ne-eqb a 0 (λ e. omega arith), lt-ltb i a h)
+
+pub broken-second : (i a b : ℕ) → a ≤ i → i < b → true ≡ broken i a b
+unfolding broken
+broken-second i a b h k = rw (le-ltb i a h, lt-ltb i b k, ne-eqb b 0 (λ e. omega arith)) (go (eqb a 0))
   where
-    go : (z : Bool) → eqb b 0 ≡ z → not z ≡ ((true && not z) || (false || ltb i b))
-    go true q = rw (le-ltb i b (omega (arith, eqb-true b 0 q)))
-    go false q = refl
+    go : (z : Bool) → true ≡ ((z && true) || true)
+    go true = refl
+    go false = refl
 
-pub broken-first : (i a b : ℕ) → (a ≡ 0 → ⊥) → i < a → true ≡ broken i a b
+pub broken-gap : (i a b : ℕ) → a ≤ i → b ≤ i → b < 4294967296 → ltb (a * 4294967296) b ≡ broken i a b
 unfolding broken
-broken-first i a b n h = rw (ne-eqb a 0 n, lt-ltb i a h)
-
-pub broken-second : (i a b : ℕ) → (a ≡ 0 → ⊥) → a ≤ i → ltb i b ≡ broken i a b
-unfolding broken
-broken-second i a b n h = rw (ne-eqb a 0 n, le-ltb i a h)
+broken-gap i a b h k l = rw (le-ltb i a h, le-ltb i b k) (go (eqb a 0) refl (eqb b 0) refl)
+  where
+    go : (y : Bool) → eqb a 0 ≡ y → (z : Bool) → eqb b 0 ≡ z → ltb (a * 4294967296) b ≡ ((y && not z) || false)
+    go true p true q = le-ltb (a * 4294967296) b (omega (arith, eqb-true b 0 q))
+    go true p false q =
+        let n : (b ≡ 0 → ⊥) = eqb-false b 0 q in
+        lt-ltb (a * 4294967296) b (omega (arith, eqb-true a 0 p))
+    go false p z q =
+        let n : (a ≡ 0 → ⊥) = eqb-false a 0 p in
+        le-ltb (a * 4294967296) b (omega arith)
 
 -- the scan counts down
 pub sound-none : (w : List ℕ) (i : ℕ) → i ≤ 0 → sound w i ≡ true

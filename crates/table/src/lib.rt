@@ -57,17 +57,19 @@ pub fn word(words: &[u32], i: usize) -> usize
     words[i] as usize
 }
 
-// Whether node i with the branch words a and b is broken.
+// Whether node i with the branch words a and b is broken. The last test is a = 0 < b, since b is a word; no test of a sound node depends on
+// whether it is a leaf, so that a processor foresees all three.
 fn is_broken(i: usize, a: usize, b: usize) -> bool
+    requires { ⌜ (a < 4294967296) × (b < 4294967296) ⌝ }
     ensures { λ r. ⌜ r ≡ broken i a b ⌝ }
 {
-    if a == 0 {
-        return b != 0;
-    }
     if i < a {
         return true;
     }
-    i < b
+    if i < b {
+        return true;
+    }
+    a * 4294967296 < b
 }
 
 // Whether no node below used is broken.
