@@ -1,5 +1,6 @@
 -- The theorems of the calculus; other crates cite them.
 pub mod Unique
+pub mod Equations
 pub mod Size
 pub mod Rule
 pub mod Demand3

@@ -1,13 +1,19 @@
--- A labelled tree on an argument, by the five rules. Assumes nothing.
+-- A labelled tree on an argument, by the equations and by the five rules. Assumes nothing.
 use Prim.Native.Nat.{ℕ, _+_}
 use mathlib.Core.Path.{_≡_, refl, subst}
 use native.Mathlib.Omega.{arith}
 use Rattle.calculus.specs.Tree.{Tree, leaf, stem, fork}
 use Rattle.calculus.specs.Rules.{Apply, by-leaf, by-stem, by-drop, by-spread, by-triage}
+use Rattle.calculus.specs.Abstraction.{Combination, app, term}
+use Rattle.calculus.specs.Equations.{Equal, same, joined, inside, drop, spread}
 use Rattle.label.specs.Label.{labelled}
 
--- "By the equations, this on any argument equals f on it." (Operations, Label) Branch-first, where the label t ends on the argument too, the
--- labelled tree gives what the rule f gives, in five steps more than both.
+-- "By the equations, this on any argument equals f on it." (Operations, Label) The argument is any term, whether or not it has a tree.
+pub labelled-equal : (f t : Tree) (z : Combination) → Equal (app (term (labelled f t)) z) (app (term f) z)
+unfolding term
+labelled-equal f t z = joined spread (joined (inside (joined spread (inside drop same)) same) drop)
+
+-- Branch-first, where the label t ends on the argument too, the labelled tree gives what the rule f gives, in five steps more than both.
 pub labelled-gives : {f t N r x : Tree} {a b : ℕ} → Apply f N r a → Apply t N x b → Apply (labelled f t) N r (a + b + 5)
 labelled-gives {f} {t} {N} {r} {x} {a} {b} p q =
     let e : 1 + (1 + 1 + a + 1) + b + 1 ≡ a + b + 5 = omega arith in

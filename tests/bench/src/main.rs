@@ -19,8 +19,11 @@ use workloads::{answer_of, Workload};
 
 const ROUNDS: usize = 101;
 
+/// The engine and the C loop as C calls them, out of the shared objects that the build made.
 mod c {
-    type Apply = unsafe extern "C" fn(
+    use std::ffi::{c_char, c_int, c_void, CString};
+
+    pub type Apply = unsafe extern "C" fn(
         *mut u32,
         usize,
         usize,
@@ -32,43 +35,46 @@ mod c {
         *mut [usize; 5],
     );
 
-    macro_rules! declare {
-        ($($name:ident),*) => {
-            extern "C" {
-                $(fn $name(
-                    table: *mut u32,
-                    table_len: usize,
-                    used: usize,
-                    stack: *mut u32,
-                    stack_len: usize,
-                    function: usize,
-                    argument: usize,
-                    limit: usize,
-                    answer: *mut [usize; 5],
-                );)*
-            }
-        };
+    extern "C" {
+        fn dlopen(path: *const c_char, flags: c_int) -> *mut c_void;
+        fn dlsym(object: *mut c_void, name: *const c_char) -> *mut c_void;
     }
 
-    #[cfg(gcc)]
-    declare!(apply_gcc, apply_gcc_checked);
-    #[cfg(clang)]
-    declare!(apply_clang, apply_clang_checked);
+    const NOW: c_int = 2;
 
-    declare!(lazvorn_apply);
+    /// How many places of its code each contender is measured at.
+    pub const PLACES: usize = 4;
 
-    /// The engine, called as C calls it, and the C loop as each compiler made it that was there.
-    pub fn applies() -> Vec<(&'static str, Apply)> {
+    /// A function of a shared object, once for each place of its code.
+    fn placed(object: &str, function: &str) -> [Apply; PLACES] {
+        [0, 16, 32, 48].map(|place| {
+            let path = format!("{}/{object}_{place}.so", env!("OUT_DIR"));
+            let path = CString::new(path).expect("a path");
+            let function = CString::new(function).expect("a name");
+            // The build links each of these functions with the type `Apply`.
+            unsafe {
+                let object = dlopen(path.as_ptr(), NOW);
+                assert!(!object.is_null(), "no {path:?}");
+                let function = dlsym(object, function.as_ptr());
+                assert!(!function.is_null(), "no function in {path:?}");
+                std::mem::transmute::<*mut c_void, Apply>(function)
+            }
+        })
+    }
+
+    /// The engine, and the C loop as each compiler made it that was there.
+    pub fn applies() -> Vec<(&'static str, [Apply; PLACES])> {
+        let loops = |name: &str| placed(name, name);
         vec![
-            ("engine", lazvorn_apply as Apply),
+            ("engine", placed("libffi", "lazvorn_apply")),
             #[cfg(gcc)]
-            ("C, gcc -O3", apply_gcc as Apply),
+            ("C, gcc -O3", loops("apply_gcc")),
             #[cfg(clang)]
-            ("C, clang -O3", apply_clang as Apply),
+            ("C, clang -O3", loops("apply_clang")),
             #[cfg(gcc)]
-            ("C, gcc -O3, same checks", apply_gcc_checked as Apply),
+            ("C, gcc -O3, same checks", loops("apply_gcc_checked")),
             #[cfg(clang)]
-            ("C, clang -O3, same checks", apply_clang_checked as Apply),
+            ("C, clang -O3, same checks", loops("apply_clang_checked")),
         ]
     }
 }
@@ -109,7 +115,7 @@ fn apply() {
             format!("{middle:.2} ({low:.2} to {high:.2})")
         });
         let beside: Vec<String> = beside.collect();
-        let engine = 1e6 * engine.median();
+        let engine = 1e6 * engine.median() / c::PLACES as f64;
         println!(
             "| {name} | {steps} | {engine:.3} | {} |",
             beside.join(" | ")
@@ -148,6 +154,7 @@ fn steps(workload: &Workload) -> usize {
     }
 }
 
+/// A run of a contender is a call at each place of its code, and as many calls where it has one place.
 fn applied(workload: Workload) -> Vec<Times> {
     let expected = workload.answer;
     let packet = workload.parts.packet();
@@ -163,45 +170,54 @@ fn applied(workload: Workload) -> Vec<Times> {
     same_run(&ran, &out, &second::run(&packet, room));
     let cell = RefCell::new(workload);
     let mut contenders: Vec<Contender> = Vec::new();
-    for (name, apply) in c::applies() {
+    for (name, places) in c::applies() {
         let cell = &cell;
         contenders.push(contender(name, move || {
-            let w = &mut *cell.borrow_mut();
-            let mut answer = [0; 5];
-            // The pointers and lengths are those of slices that nothing else borrows. The C loop trusts
-            // the table and the numbers, which the engine has checked.
-            unsafe {
-                apply(
-                    w.table.as_mut_ptr(),
-                    w.table.len(),
-                    w.used,
-                    w.stack.as_mut_ptr(),
-                    w.stack.len(),
-                    w.function,
-                    w.argument,
-                    w.limit,
-                    &mut answer,
-                )
-            };
-            assert_eq!(answer, expected);
+            for apply in places {
+                assert_eq!(call(apply, &mut cell.borrow_mut()), expected);
+            }
         }));
     }
     contenders.push(contender("safe Rust, same checks", || {
-        let w = &mut *cell.borrow_mut();
-        let answer = plain::apply(
-            &mut w.table,
+        for _ in 0..c::PLACES {
+            let w = &mut *cell.borrow_mut();
+            let answer = plain::apply(
+                &mut w.table,
+                w.used,
+                &mut w.stack,
+                w.function,
+                w.argument,
+                w.limit,
+            );
+            assert_eq!(answer, expected);
+        }
+    }));
+    contenders.push(contender("second evaluator, its whole run", || {
+        for _ in 0..c::PLACES {
+            black_box(second::run(&packet, room).is_ok());
+        }
+    }));
+    rounds(contenders, ROUNDS)
+}
+
+fn call(apply: c::Apply, w: &mut Workload) -> [usize; 5] {
+    let mut answer = [0; 5];
+    // The pointers and lengths are those of slices that nothing else borrows. The C loop trusts the
+    // table and the numbers, which the engine has checked.
+    unsafe {
+        apply(
+            w.table.as_mut_ptr(),
+            w.table.len(),
             w.used,
-            &mut w.stack,
+            w.stack.as_mut_ptr(),
+            w.stack.len(),
             w.function,
             w.argument,
             w.limit,
-        );
-        assert_eq!(answer, expected);
-    }));
-    contenders.push(contender("second evaluator, its whole run", || {
-        black_box(second::run(&packet, room).is_ok());
-    }));
-    rounds(contenders, ROUNDS)
+            &mut answer,
+        )
+    };
+    answer
 }
 
 /// A tree's text of exactly so many digits.
