@@ -18,6 +18,7 @@ use Rattle.table.proofs.Words.{and-left, and-right}
 use Rattle.table.proofs.Trees.{Extends, extends-refl, extends-trans}
 use Rattle.table.proofs.Making.{Places, Has, has, stays, stem-of, fork-of, make-used, make-leaf}
 use Rattle.table.proofs.Entry.{Entered, entered}
+use Rattle.table.proofs.Laid.{refused-made}
 use Rattle.label.specs.Label.{labelled, Outcome, whole, nodes, placed, label}
 
 -- z is t with k nodes more
@@ -58,9 +59,6 @@ nodes-place {t} s f l hf hl r =
     known : (i : ℕ) → i < t .used → Has t i (treeAt (t .words) i)
     known i h = record { inside = h; tree = refl }
 
-clash : {A : Type 0} {e : Refusal} {v u : ℕ} → Refused e ≡ Node v u → A
-clash q = let n : _≡_ {A = ℕ} 0 1 = cc in absurd (omega arith)
-
 -- What a Label that gave node v says: both nodes were in use, the node has the labelled tree, and old nodes keep their trees.
 pub record Labels (w : List ℕ) (u f t v u′ : ℕ) : Type 0 where
   pub entry : Entered true w u []
@@ -99,8 +97,8 @@ module _ (w : List ℕ) (u f t v u′ : ℕ) where
     where
       go : (x y : Bool) → (ltb f u && ltb t u) ≡ x → ltb (capacity w - u) 7 ≡ y
           → Gives (cond x (cond y (whole (Refused Nodes) w) (placed (nodes (record { words = w; used = u }) f t))) (whole (Refused refusal.Node) w))
-      go false y h k = λ e. clash e
-      go true true h k = λ e. clash e
+      go false y h k = λ e. refused-made e
+      go true true h k = λ e. refused-made e
       go true false h k =
           from-nodes s (ltb-true f u (and-left (ltb f u) (ltb t u) h)) (ltb-true t u (and-right (ltb f u) (ltb t u) h))
           (omega (arith, s .within, ltb-false (capacity w - u) 7 k))
@@ -113,7 +111,7 @@ module _ (w : List ℕ) (u f t v u′ : ℕ) where
       o = cond (ltb f u && ltb t u) (cond (ltb (capacity w - u) 7) (whole (Refused Nodes) w) (placed (nodes (record { words = w; used = u }) f t))) (whole (Refused refusal.Node) w)
 
       go : (c : Option Refusal) → atEntry true w u [] ≡ c → unless c (λ e. whole (Refused e) w) o .answer ≡ Node v u′ → Labels w u f t v u′
-      go (some e) c q = clash q
+      go (some e) c q = refused-made q
       go none c q =
           let n = entered true w u [] c in
           let g = from-checks (n .table) q in
@@ -133,4 +131,4 @@ label-refused w u f t e = go (atEntry true w u []) (ltb f u && ltb t u) (ltb (ca
     go (some c) x y q = refl
     go none false y q = refl
     go none true true q = refl
-    go none true false q = clash (sym q)
+    go none true false q = refused-made (sym q)

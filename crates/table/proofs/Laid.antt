@@ -6,9 +6,14 @@ use native.Mathlib.Omega.{arith}
 use Rattle.calculus.specs.Tree.{Tree, size}
 use Rattle.table.specs.Nodes.{Table, Placed, capacity, Sound, lay}
 use Rattle.table.specs.Outcome.{Outcome, zeros, placed, laid}
+use Rattle.table.specs.declared.Refusal.{Refusal}
 use Rattle.table.specs.declared.Made.{Made}
-use Rattle.table.specs.declared.Made.the-variants.{Node}
+use Rattle.table.specs.declared.Made.the-variants.{Node, Refused}
 use Rattle.table.proofs.Making.{Places, lay-places, lay-used, lay-node}
+
+-- no refusal is a node
+pub refused-made : {A : Type 0} {e : Refusal} {v u : ℕ} → Refused e ≡ Node v u → A
+refused-made q = let n : _≡_ {A = ℕ} 0 1 = cc in absurd (omega arith)
 
 -- An outcome o that gave node v, of the tree x, in a table that was w with u nodes in use.
 pub record Lays (w : List ℕ) (u : ℕ) (x : Tree) (o : Outcome Made) (v u′ : ℕ) : Type 0 where

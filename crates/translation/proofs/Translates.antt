@@ -19,7 +19,7 @@ use Rattle.table.specs.declared.Made.{Made}
 use Rattle.table.specs.declared.Made.the-variants.{Node, Refused}
 use Rattle.table.proofs.Words.{cleared-none}
 use Rattle.table.proofs.Entry.{Entered, entered, enters}
-use Rattle.table.proofs.Laid.{Lays, laid-gives, laid-answer, laid-stack}
+use Rattle.table.proofs.Laid.{refused-made, Lays, laid-gives, laid-answer, laid-stack}
 use Rattle.translation.specs.Translate.{translateRule, translate}
 
 -- What a Translate that gave node v says: its bytes are a rule, the node has the translated rule's tree, "Nodes lie as Read would lay its text",
@@ -32,9 +32,6 @@ pub record Translates (w : List ℕ) (u : ℕ) (s b : List ℕ) (v u′ : ℕ) :
   pub laid-is : translate w u s b ≡ laid w u s (ruleTree term)
   pub stack : translate w u s b .stack ≡ zeros s
 
-clash : {A : Type 0} {e : Refusal} {v u : ℕ} → Refused e ≡ Node v u → A
-clash q = let n : _≡_ {A = ℕ} 0 1 = cc in absurd (omega arith)
-
 module _ (w : List ℕ) (u : ℕ) (s b : List ℕ) (v u′ : ℕ) where
   -- the outcome o of a rule's tree, as far as the checks have come
   Gives : Outcome Made → Type 0
@@ -42,13 +39,13 @@ module _ (w : List ℕ) (u : ℕ) (s b : List ℕ) (v u′ : ℕ) where
 
   from-rule : Sound (record { words = w; used = u }) → (r : Option Term) → rule b ≡ r → Gives (translateRule w u s r)
   unfolding translateRule stopped Gives
-  from-rule f none q = λ e. clash e
+  from-rule f none q = λ e. refused-made e
   from-rule f (some t) q = go (ltb (capacity w - u) (size (ruleTree t))) (ltb (frames s) (2 * size (ruleTree t))) refl
     where
       go : (x y : Bool) → ltb (capacity w - u) (size (ruleTree t)) ≡ x
           → Gives (cond x (stopped (Refused Nodes) (record { words = w; used = u }) u s) (cond y (stopped (Refused Frames) (record { words = w; used = u }) u s) (laid w u s (ruleTree t))))
-      go true y h e = clash e
-      go false true h e = clash e
+      go true y h e = refused-made e
+      go false true h e = refused-made e
       go false false h e =
           (t, q, laid-gives w u s (ruleTree t) v u′ f (ltb-false (capacity w - u) (size (ruleTree t)) h) e, refl)
 
@@ -56,7 +53,7 @@ module _ (w : List ℕ) (u : ℕ) (s b : List ℕ) (v u′ : ℕ) where
       → unless c (λ e. whole (Refused e) w s) (translateRule w u s (rule b)) .answer ≡ Node v u′
       → Entered true w u s × Gives (unless c (λ e. whole (Refused e) w s) (translateRule w u s (rule b)))
   unfolding Gives
-  from-entry (some e) c q = clash q
+  from-entry (some e) c q = refused-made q
   from-entry none c q = let f = entered true w u s c in (f, from-rule (f .table) (rule b) refl)
 
   pub translate-gives : translate w u s b .answer ≡ Node v u′ → Translates w u s b v u′
@@ -77,7 +74,7 @@ refused-rule w u s (some t) e = go (ltb (capacity w - u) (size (ruleTree t))) (l
         → cond x (stopped (Refused Nodes) (record { words = w; used = u }) u s) (cond y (stopped (Refused Frames) (record { words = w; used = u }) u s) (laid w u s (ruleTree t))) .table ≡ w
     go true y q = cleared-none w (u * 2)
     go false true q = cleared-none w (u * 2)
-    go false false q = clash (sym q ∙ laid-answer w u s (ruleTree t))
+    go false false q = refused-made (sym q ∙ laid-answer w u s (ruleTree t))
 
 pub translate-refused : (w : List ℕ) (u : ℕ) (s b : List ℕ) (e : Refusal) → translate w u s b .answer ≡ Refused e → translate w u s b .table ≡ w
 unfolding translate
