@@ -1,3 +1,4 @@
+-- The theorems of Apply; other crates cite them.
 pub mod States
 pub mod Leads
 pub mod Cases

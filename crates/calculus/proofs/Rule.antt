@@ -10,7 +10,7 @@ use lib.ListN.{length, drop, length-append}
 use lib.Seq.{drop-drop, drop-length, drop-append-seam}
 use lib.Dec.{ltb, leb, eqb}
 use borrow.Author.Tests.{ltb-true, lt-ltb, leb-true, le-leb, eqb-true, eq-eqb}
-use Rattle.calculus.specs.Term.{Term, leaf, app, abs, var, ClosedUnder, nesting}
+use Rattle.calculus.specs.Term.{Term, leaf, app, abs, var, ClosedUnder, nesting, parameters}
 use Rattle.calculus.specs.Bytes.{bytes, IsRule, abstraction, application, argument, parse, whole, rule}
 
 -- A term has a byte.
@@ -156,3 +156,8 @@ rule-found {l} {t} h =
 -- abstractions nested." (Translation) The reader of bytes finds a term exactly where it is a rule's.
 pub rule-exact : (l : List ℕ) (t : Term) → (rule l ≡ some t) ↔ IsRule l t
 rule-exact l t = (λ e. rw e at (rule-good l), rule-found)
+
+-- a rule has a leading parameter
+pub rule-leads : (b : List ℕ) {t : Term} → rule b ≡ some t → 1 ≤ parameters t
+unfolding parameters
+rule-leads b {t} e = let r = rule-exact b t .0 e in rw (r .begins) (omega arith)

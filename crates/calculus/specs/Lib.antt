@@ -1,3 +1,4 @@
+-- Trees, rules, terms, abstraction and the two runs. Assumes nothing: these are definitions.
 pub mod Tree
 pub mod Rules
 pub mod Term

@@ -1,3 +1,4 @@
+-- Demand 3 in lists of calls, and what it rests on.
 pub mod Tables
 pub mod Lists
 pub mod Lying

@@ -12,7 +12,7 @@ use Rattle.calculus.specs.Term.{Term, parameters}
 use Rattle.calculus.specs.Bytes.{rule}
 use Rattle.calculus.specs.Abstraction.{ruleTree}
 use Rattle.calculus.specs.Runs.{Direct, Translated, difference}
-use Rattle.calculus.proofs.Rule.{rule-exact}
+use Rattle.calculus.proofs.Rule.{rule-leads}
 use Rattle.calculus.proofs.Demand3.{demand-3}
 use Rattle.table.specs.Nodes.{Table, Sound, treeAt}
 use Rattle.table.proofs.Trees.{kept-tree}
@@ -61,11 +61,6 @@ pub record Claim (t : Table) (b : List ℕ) (args : List Argument) (r : Tree) (k
   pub direct : 1 ≤ length args → length args ≤ parameters term → (j : ℕ) × Direct term (map (argumentTree t) args) r j
   pub steps : length args ≡ 1 → (j : ℕ) → Direct term (map (argumentTree t) args) r j → k ≡ j + difference term
 
--- a rule has a leading parameter
-leads : (b : List ℕ) {t : Term} → rule b ≡ some t → 1 ≤ parameters t
-unfolding parameters
-leads b {t} e = let r = rule-exact b t .0 e in rw (r .begins) (omega arith)
-
 claim : {z : Table} {b : List ℕ} {args : List Argument} {r : Tree} {k : ℕ} → (t : Term) → rule b ≡ some t → ApplyAll (ruleTree t) (map (argumentTree z) args) r k → Claim z b args r k
 unfolding Translated
 claim {z} {b} {args} {r} {k} t e a =
@@ -74,7 +69,7 @@ claim {z} {b} {args} {r} {k} t e a =
       term = t;
       is-rule = e;
       direct = λ h l. demand-3 b t e (map (argumentTree z) args) (omega arith) (omega arith) r .0 .0 (k, a);
-      steps = λ o j d. demand-3 b t e (map (argumentTree z) args) (omega arith) (omega (arith, leads b e)) r .1 k j (n ∙ o) a d;
+      steps = λ o j d. demand-3 b t e (map (argumentTree z) args) (omega arith) (omega (arith, rule-leads b e)) r .1 k j (n ∙ o) a d;
     }
 
 completed : {t : Table} {before cs : List Call} {b : List ℕ} {args : List Argument} {r : Tree} {k : ℕ} → Completed t before cs b args r k → Claim t b args r k
@@ -99,7 +94,8 @@ given (reads {s = s} {l = l} {v = v} {u = u} {cs = cs} {t = t} {x = x} e w) =
     stays-by cs (rw (left-read s l t e) (p .fine)) h .tree
 
 -- "That is a single claim about the whole list, and not one for each call." `of-runs`: every run that is completed in the list. `of-reads`: "for a
--- node that a Read in the list gave, this is the tree of that Read's text", where the Read stands before the Apply.
+-- node that a Read in the list gave, this is the tree of that Read's text", where the Read stands before the Apply; it is stated of any argument, those
+-- of the list's runs among them.
 pub record ListClaim (cs : List Call) (t : Table) : Type 0 where
   pub of-runs : (b : List ℕ) (args : List Argument) (r : Tree) (k : ℕ) → Completed t [] cs b args r k → Claim t b args r k
   pub of-reads : (a : Argument) (x : Tree) → Gave (a .before) t (a .node) x → argumentTree t a ≡ x

@@ -1,1 +1,2 @@
+-- The starred lines, computed.
 pub mod Computed

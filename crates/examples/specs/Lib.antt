@@ -1,2 +1,3 @@
+-- The starred lines as rows. Assumes nothing: these are definitions.
 pub mod Rows
 pub mod Starred

@@ -1,1 +1,2 @@
+-- The laws that the proofs of the exported functions cite.
 mod Telling

@@ -1,1 +1,2 @@
+-- What crosses the boundary. Assumes nothing: these are definitions.
 pub mod Boundary

@@ -1,2 +1,3 @@
+-- The theorems of the packet; other crates cite them.
 pub mod Exact
 pub mod Vectors

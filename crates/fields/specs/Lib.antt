@@ -1,1 +1,2 @@
+-- A packet and its fields. Assumes nothing: these are definitions.
 pub mod Packet

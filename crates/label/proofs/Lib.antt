@@ -1,3 +1,4 @@
+-- The theorems of Label, and the laws that the proofs of its functions cite.
 pub mod Labelled
 pub mod Labels
 pub mod Ways

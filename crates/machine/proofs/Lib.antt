@@ -1,3 +1,4 @@
+-- The laws that the proofs of Apply's functions cite.
 pub mod Frames
 pub mod Steps
 pub mod Settled

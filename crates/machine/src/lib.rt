@@ -1,4 +1,5 @@
-// The five rules on a table, one use at a time, with steps, nodes and frames counted: Apply. The definitions are in specs/.
+// The five rules on a table, one use at a time, with steps, nodes and frames counted: Apply. The definitions and the laws that callers cite are
+// in the crate `applying`; specs/ says what the code's own values mean in their terms.
 use applying::Applied;
 use applying::Frame;
 use applying::Rule;

@@ -1,5 +1,5 @@
-// The fields of a packet: where the rule and the arguments' texts stand in it, and the step limit. The definitions are in specs/, the laws that
-// callers cite in proofs/. A value is a part of the packet, `&packet[start..end]`, and is not copied.
+// The fields of a packet: where the rule and the arguments' texts stand in it, and the step limit. The definition is in the crate `fields`,
+// the laws that callers cite are in proofs/. A value is a part of the packet, `&packet[start..end]`, and is not copied.
 ghost use mathlib.Core.Path.{_≡_};
 ghost use mathlib.Core.List.{List};
 ghost use Prim.Native.Nat.{ℕ, _+_, _≤_, _<_};

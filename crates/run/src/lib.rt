@@ -1,5 +1,5 @@
 // Run: a packet's rule on its arguments, and the text of the outcome. Each stage is a function that ends in the next one, as in the definition
-// (specs/), and takes its inner answer apart: a refusal clears what was made since Run's entry.
+// (the crate `running`), and takes its inner answer apart: a refusal clears what was made since Run's entry.
 use applying::Applied;
 use packet::Form;
 use running::Ran;

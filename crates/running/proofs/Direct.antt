@@ -12,7 +12,7 @@ use Rattle.calculus.specs.Term.{Term, parameters}
 use Rattle.calculus.specs.Bytes.{rule}
 use Rattle.calculus.specs.Abstraction.{ruleTree}
 use Rattle.calculus.specs.Runs.{Direct, Translated, difference}
-use Rattle.calculus.proofs.Rule.{rule-exact}
+use Rattle.calculus.proofs.Rule.{rule-leads}
 use Rattle.calculus.proofs.Demand3.{demand-3}
 use Rattle.table.specs.Nodes.{Sound}
 use Rattle.table.specs.Outcome.{zeros}
@@ -64,11 +64,6 @@ trees-of [] (x ∷ xs) e = zero-one (cc)
 trees-of (l ∷ ls) [] e = zero-one (cc)
 trees-of (l ∷ ls) (x ∷ xs) e = let h = readable-some l x (cc) .tree-of in let t = trees-of ls xs (cc) in cc
 
--- a rule has a leading parameter
-leads : (b : List ℕ) {t : Term} → rule b ≡ some t → 1 ≤ parameters t
-unfolding parameters
-leads b {t} e = let r = rule-exact b t .0 e in rw (r .begins) (omega arith)
-
 module _ (w s o l : List ℕ) (k u n : ℕ) where
   -- "Run a packet": where Run writes a text, with one argument or more it is that of the tree that the direct run of the packet's rule on its arguments
   -- ends in; with one argument the steps are the direct run's plus 2L + 5X − 1.
@@ -101,7 +96,7 @@ module _ (w s o l : List ℕ) (k u n : ℕ) where
             translated = x;
             within-limit = omega (arith, h .within-limit);
             direct = λ low high. demand-3 (p .rule) t i args low high r .0 .0 (k, x);
-            steps = λ one j y. demand-3 (p .rule) t i args (omega arith) (omega (arith, leads (p .rule) i)) r .1 k j one x y;
+            steps = λ one j y. demand-3 (p .rule) t i args (omega arith) (omega (arith, rule-leads (p .rule) i)) r .1 k j one x y;
             used-is = rw (← a, ← b) (h .count);
             stack = cc;
             same-length = ap length words ∙ h .extends .kept .same-length;

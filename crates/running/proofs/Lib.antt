@@ -1,3 +1,4 @@
+-- The theorems of Run; other crates cite them.
 pub mod Limit
 pub mod Grown
 pub mod Undone

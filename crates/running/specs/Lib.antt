@@ -1,1 +1,2 @@
+-- Run. Assumes nothing: these are definitions.
 pub mod Run

@@ -1,3 +1,4 @@
+-- The laws of tables; other crates cite them.
 pub mod Words
 pub mod Trees
 pub mod Making

@@ -68,7 +68,7 @@ make t a b =
     }
 
 -- A tree laid out in new nodes: the second branch, the first branch, then their parent. Digit p of the n of its text becomes node
--- used + n − 1 − p (Operations, Read): the theorem `lay-digit` of the crate `text`.
+-- used + n − 1 − p (Operations, Read): the theorem `lay-digit` of the crate `ternary`.
 unfoldable pub lay : Table → Tree → Placed
 lay t leaf = make t 0 0
 lay t (stem p) = let m = lay t p in make (m .table) (m .node + 1) 0

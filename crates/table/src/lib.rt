@@ -1,4 +1,4 @@
-// A lent table's words as nodes, and the refusals: the one place that reads words, looks for broken nodes, makes nodes and clears words.
+// A lent table's words as nodes, and the refusals: the one place that looks for broken nodes, makes nodes and clears words.
 // The definitions are in specs/, the laws that callers cite in proofs/.
 ghost use mathlib.Core.Path.{_≡_};
 ghost use Prim.Native.Nat.{_+_, _*_, _≤_, _<_};

@@ -1,4 +1,4 @@
--- Laws of Translate for callers (Translates, Lacks), and those that the proofs of its functions cite.
+-- The laws that the proofs of Translate's functions cite.
 pub mod Standing
 pub mod Stores
 pub mod Runs

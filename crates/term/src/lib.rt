@@ -1,4 +1,5 @@
-// A rule's bytes to its tree: Translate. The definitions are in specs/, the laws that callers cite in proofs/. Assumes nothing.
+// A rule's bytes to its tree: Translate. The definition and the laws that callers cite are in the crate `translation`; specs/ says what the words
+// of a run mean. Assumes nothing.
 //
 // A term without abstraction is a run of words in the lent stack: n leaves and variables take 2n − 1 words, and an application's word says how
 // long its function part is, so that nothing is scanned twice. An abstraction is written into the table words of nodes that are not made yet,

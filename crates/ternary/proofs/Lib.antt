@@ -1,3 +1,4 @@
+-- The theorems of text, Read and Write; other crates cite them.
 pub mod OneText
 pub mod Reading
 pub mod Writes

@@ -1,3 +1,4 @@
+-- Text, Read and Write. Assumes nothing: these are definitions.
 pub mod Text
 pub mod Read
 pub mod Write

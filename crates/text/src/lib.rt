@@ -1,4 +1,5 @@
-// Ternary text: Read and Write. The definitions are in specs/, the laws that callers cite in proofs/.
+// Ternary text: Read and Write. The definitions and the laws that callers cite are in the crate `ternary`; specs/ says what the code's own values
+// mean in their terms.
 ghost use mathlib.Core.Path.{_≡_};
 ghost use mathlib.Core.List.{List, _∷_, [], _++_};
 ghost use mathlib.Core.Option.{some};

@@ -1,2 +1,3 @@
+-- The theorems of Translate; other crates cite them.
 pub mod Translates
 pub mod Lacks

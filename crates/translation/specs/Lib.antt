@@ -1,1 +1,2 @@
+-- Translate. Assumes nothing: these are definitions.
 pub mod Translate

@@ -398,53 +398,109 @@ fn packets() {
 
 // ---- growth
 
-/// The engine's median time for one call.
-fn alone<'a>(run: impl FnMut() + 'a) -> f64 {
-    rounds(vec![contender("engine", run)], ROUNDS / 2)[0].median()
+/// Memory to lend: the most words that a table and a stack may have, and the most out bytes.
+struct Memory {
+    table: Vec<u32>,
+    stack: Vec<u32>,
+    out: Vec<u8>,
+}
+
+fn memory() -> Memory {
+    Memory {
+        table: vec![0; 131_072],
+        stack: vec![0; 65_535],
+        out: vec![0; 65_535],
+    }
+}
+
+/// A call of some size.
+type Call = (usize, Box<dyn FnMut()>);
+
+fn read_call(text: Vec<u8>) -> Call {
+    let mut m = memory();
+    let size = text.len();
+    let call = move || {
+        let read = lazvorn::read(&mut m.table, 0, &mut m.stack, &text);
+        assert_eq!(read.used, text.len());
+    };
+    (size, Box::new(call))
+}
+
+fn write_call(text: Vec<u8>) -> Call {
+    let mut m = memory();
+    let read = lazvorn::read(&mut m.table, 0, &mut m.stack, &text);
+    let call = move || {
+        let written = lazvorn::write(&m.table, read.used, &mut m.stack, read.node, &mut m.out);
+        assert_eq!(written.digits, text.len());
+    };
+    (read.used, Box::new(call))
+}
+
+fn translate_call(rule: Vec<u8>) -> Call {
+    let mut m = memory();
+    let made = lazvorn::translate(&mut m.table, 0, &mut m.stack, &rule);
+    assert_eq!(made.refusal, 0);
+    let call = move || {
+        let translated = lazvorn::translate(&mut m.table, 0, &mut m.stack, &rule);
+        assert_eq!(translated, made);
+    };
+    (made.used, Box::new(call))
+}
+
+fn apply_call(limit: usize) -> Call {
+    let mut workload = workloads::endless(limit);
+    let call = move || {
+        black_box(workload.apply());
+    };
+    (limit, Box::new(call))
+}
+
+fn run_call(text: Vec<u8>) -> Call {
+    let parts = packets::Parts {
+        rule: vec![2, 3, 0],
+        arguments: vec![text],
+        limit: None,
+    };
+    let packet = parts.packet();
+    let mut m = memory();
+    let size = packet.len();
+    let call = move || {
+        let ran = lazvorn::run(&mut m.table, &mut m.stack, &mut m.out, &packet);
+        assert_eq!(ran.refusal, 0);
+    };
+    (size, Box::new(call))
+}
+
+/// The time of each call, where all sizes take turns.
+fn line(name: &'static str, calls: Vec<Call>) -> plot::Line {
+    let sizes: Vec<usize> = calls.iter().map(|call| call.0).collect();
+    let calls = calls.into_iter().map(|(_, run)| contender(name, run));
+    let times = rounds(calls.collect(), ROUNDS);
+    let points = sizes.iter().zip(&times);
+    let points = points.map(|(&size, times)| (size as f64, times.median()));
+    plot::Line {
+        name,
+        points: points.collect(),
+    }
 }
 
 fn growth() -> Vec<plot::Line> {
     let mut random = Random::new(2);
-    let texts: Vec<Vec<u8>> = [500, 1_000, 2_000, 4_000, 8_000, 16_000, 32_000, 64_000]
-        .map(|digits| text(&mut random, digits))
-        .into();
-    let sized = |text: &Vec<u8>, times: Vec<Times>| (text.len() as f64, times[0].median());
-    let read = texts.iter().map(|text| sized(text, reading(text)));
-    let read = read.collect();
-    let write = texts.iter().map(|text| sized(text, writing(text)));
-    let write = write.collect();
-    let translate = [25, 50, 100, 200, 400, 800, 1_365].map(|variables| {
-        let (nodes, times) = translating(&wide_rule(variables));
-        (nodes as f64, times[0].median())
-    });
-    let apply = [1_000, 2_000, 4_000, 8_000, 16_000, 32_000, 64_000, 128_000].map(|limit| {
-        let mut workload = workloads::endless(limit);
-        let seconds = alone(|| {
-            black_box(workload.apply());
-        });
-        (limit as f64, seconds)
-    });
-    let run = [500, 1_000, 2_000, 4_000, 8_000, 16_000].map(|digits| {
-        let parts = packets::Parts {
-            rule: vec![2, 3, 0],
-            arguments: vec![text(&mut random, digits)],
-            limit: None,
-        };
-        let packet = parts.packet();
-        let (mut table, mut stack, mut out) = (vec![0; 131_072], vec![0; 65_535], vec![0; 65_535]);
-        let seconds = alone(|| {
-            let ran = lazvorn::run(&mut table, &mut stack, &mut out, &packet);
-            assert_eq!(ran.refusal, 0);
-        });
-        (packet.len() as f64, seconds)
-    });
-    let line = |name, points: Vec<(f64, f64)>| plot::Line { name, points };
+    let digits = [500, 1_000, 2_000, 4_000, 8_000, 16_000, 32_000, 64_000];
+    let steps = [1_000, 2_000, 4_000, 8_000, 16_000, 32_000, 64_000, 128_000];
+    let variables = [25, 50, 100, 200, 400, 800, 1_365];
+    let texts = digits.map(|n| text(&mut random, n));
+    let read = texts.iter().cloned().map(read_call).collect();
+    let write = texts.iter().cloned().map(write_call).collect();
+    // A packet has at most 16,384 bytes.
+    let run = texts.iter().take(6).cloned().map(run_call).collect();
+    let translate = variables.map(|n| translate_call(wide_rule(n)));
     vec![
         line("Read (digits)", read),
         line("Write (digits)", write),
         line("Translate (nodes)", translate.into()),
-        line("Apply (steps)", apply.into()),
-        line("Run (packet bytes)", run.into()),
+        line("Apply (steps)", steps.map(apply_call).into()),
+        line("Run (packet bytes)", run),
     ]
 }
 

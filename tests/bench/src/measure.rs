@@ -1,5 +1,9 @@
 //! Times by the thread's own clock, so that what other processes take of a shared machine is left
-//! out, in rounds in which every contender has a turn, so that a slow spell meets all of them.
+//! out, in rounds in which every contender has a turn, so that a slow spell meets all of them. The
+//! order of the turns changes at random and a turn begins with a run that is not timed, so that what
+//! one contender leaves in caches does not count against another.
+
+use compare::random::Random;
 
 const THREAD_CPU_TIME: i32 = 3;
 
@@ -39,6 +43,7 @@ pub struct Times {
 const TURN: f64 = 0.002;
 
 fn turn(contender: &mut Contender, repeats: usize) -> f64 {
+    (contender.run)();
     let start = clock();
     for _ in 0..repeats {
         (contender.run)();
@@ -50,10 +55,7 @@ fn turn(contender: &mut Contender, repeats: usize) -> f64 {
 pub fn rounds(mut contenders: Vec<Contender>, rounds: usize) -> Vec<Times> {
     let repeats: Vec<usize> = contenders
         .iter_mut()
-        .map(|contender| {
-            turn(contender, 1);
-            (TURN / turn(contender, 1).max(1e-9)).ceil().max(1.0) as usize
-        })
+        .map(|contender| (TURN / turn(contender, 1).max(1e-9)).ceil().max(1.0) as usize)
         .collect();
     let mut times: Vec<Times> = contenders
         .iter()
@@ -62,10 +64,13 @@ pub fn rounds(mut contenders: Vec<Contender>, rounds: usize) -> Vec<Times> {
             seconds: Vec::new(),
         })
         .collect();
-    for round in 0..rounds {
-        // Each round begins with another contender.
-        for i in 0..contenders.len() {
-            let i = (i + round) % contenders.len();
+    let mut random = Random::new(1);
+    let mut order: Vec<usize> = (0..contenders.len()).collect();
+    for _ in 0..rounds {
+        for k in (1..order.len()).rev() {
+            order.swap(k, random.below(k + 1));
+        }
+        for &i in &order {
             times[i].seconds.push(turn(&mut contenders[i], repeats[i]));
         }
     }
