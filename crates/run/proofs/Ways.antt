@@ -18,8 +18,7 @@ use Rattle.table.specs.declared.Refusal.the-variants as refusal
 use Rattle.table.specs.declared.Made.{Made}
 use Rattle.table.specs.declared.Made.the-variants as made
 use Rattle.table.proofs.Words.{cleared-all}
-use Rattle.ternary.specs.Read.{read, readable}
-use Rattle.text.specs.Code.{isSome}
+use Rattle.ternary.specs.Read.{read, readable, isSome}
 use Rattle.ternary.specs.Write as write
 use Rattle.ternary.specs.declared.Written.{Written}
 use Rattle.ternary.specs.declared.Written.the-variants as written

@@ -15,7 +15,7 @@ use Rattle.table.specs.declared.Refusal.{Refusal}
 use Rattle.table.specs.declared.Refusal.the-variants as refusal
 use Rattle.table.specs.declared.Made.{Made}
 use Rattle.table.specs.declared.Made.the-variants as made
-use Rattle.ternary.specs.Read.{read, readable}
+use Rattle.ternary.specs.Read.{read, readable, isSome}
 use Rattle.ternary.specs.Write as write
 use Rattle.ternary.specs.declared.Written.{Written}
 use Rattle.ternary.specs.declared.Written.the-variants as written
@@ -83,10 +83,6 @@ unfoldable pub stages : List ℕ → List ℕ → List ℕ → Packet → Whole
 stages w s o p =
     let r = translate w 0 s (p .rule) in
     afterMade 0 o r (λ w′ u′ s′ v. reads (p .arguments) w′ u′ s′ o (λ ns w″ u″ s″. applies ns (p .limit) w″ u″ s″ o v 0)) (r .answer)
-
-isSome : {A : Type 0} → Option A → Bool
-isSome none = false
-isSome (some a) = true
 
 -- whether each text is one that Read takes
 unfoldable pub allReadable : List (List ℕ) → Bool

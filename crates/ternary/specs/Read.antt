@@ -17,6 +17,11 @@ use Rattle.ternary.specs.Text.{treeOf, mostPending}
 unfoldable pub readable : List ℕ → Option Tree
 readable l = cond (leb (length l) 65535) (treeOf l) none
 
+-- whether there is a tree, or whatever else is asked for
+unfoldable pub isSome : {A : Type 0} → Option A → Bool
+isSome none = false
+isSome (some a) = true
+
 -- "8: more digits than free nodes. 9: fewer frames than the most trees pending". Both are met before a node is made.
 unfoldable pub readTree : List ℕ → ℕ → List ℕ → List ℕ → Option Tree → Outcome Made
 readTree w u s l none = whole (Refused Text) w s

@@ -17,9 +17,9 @@ use Rattle.table.specs.declared.Made.the-variants.{Node, Refused}
 use Rattle.table.proofs.Words.{cleared-none, cleared-all}
 use Rattle.table.proofs.Making.{lay-node, lay-used, size-pos}
 use Rattle.ternary.specs.Text.{treeOf, mostPending}
-use Rattle.ternary.specs.Read.{readable, readTree, read}
+use Rattle.ternary.specs.Read.{readable, isSome, readTree, read}
 use Rattle.text.specs.declared.Scanned.the-variants.{Whole, Broken}
-use Rattle.text.specs.Code.{isSome, ScanSays, LaysText, laysAs}
+use Rattle.text.specs.Code.{ScanSays, LaysText, laysAs}
 
 module _ (w : List ℕ) (u : ℕ) (s l : List ℕ) where
   module _ (m : ℕ) (q : ScanSays l (Whole m)) where

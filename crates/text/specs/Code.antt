@@ -22,11 +22,6 @@ use Rattle.text.specs.declared.Fit.the-variants.{Left, Lacks}
 use Rattle.text.specs.declared.Scanned.{Scanned}
 use Rattle.text.specs.declared.Scanned.the-variants.{Whole, Broken}
 
--- whether there is a tree
-unfoldable pub isSome : Option Tree → Bool
-isSome none = false
-isSome (some t) = true
-
 -- what a scan says of a text
 unfoldable pub ScanSays : List ℕ → Scanned → Type 0
 ScanSays l (Whole n) = (t : Tree) × (treeOf l ≡ some t) × (n ≡ mostPending l)
