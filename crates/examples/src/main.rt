@@ -19,10 +19,8 @@
 //   u LETTER USED A B WORD ..       in a table of these words, Read (r) of 0, Write (w) of node A, Translate (t) of 02 00, Apply (a) of A to B
 //                                   under the limit 100, Label (l) of A with B: what the command of that letter prints
 //   p BYTES                         Run of a packet with the room that the program lends: the program's line
-ghost use mathlib.Core.Path.{_≡_};
 ghost use Prim.Native.Nat.{_+_, _*_, _≤_, _<_};
 ghost use lib.ListN.{length};
-ghost use Rattle.table.specs.Refusal.{number};
 use applying::Applied;
 use libc::STDIN_FILENO;
 use libc::STDOUT_FILENO;
@@ -195,24 +193,6 @@ fn frame_words(n: usize, most: usize) -> usize
     least(n * 3, most)
 }
 
-// The number that document 01 gives a refusal.
-fn number_of(refusal: Refusal) -> usize
-    ensures { λ r. ⌜ r ≡ number refusal ⌝ }
-{
-    match refusal {
-        Refusal::Limits => 1,
-        Refusal::Broken => 2,
-        Refusal::Node => 3,
-        Refusal::Text => 4,
-        Refusal::Rule => 5,
-        Refusal::Packet => 6,
-        Refusal::Steps => 7,
-        Refusal::Nodes => 8,
-        Refusal::Frames => 9,
-        Refusal::Out => 10,
-    }
-}
-
 // Prints a number and a blank.
 fn show(n: usize) {
     io::print_decimal(STDOUT_FILENO, n as u64);
@@ -240,7 +220,7 @@ fn show_written(written: Written, out: &[u8]) {
             show(digits);
             show_text(out, digits);
         }
-        Written::Refused(refusal) => show_last(number_of(refusal)),
+        Written::Refused(refusal) => show_last(table::number(refusal)),
     }
 }
 
@@ -265,7 +245,7 @@ fn show_node(table: &[u32], used: usize, stack: &mut [u32], node: usize, out: &m
         Written::Digits(digits) => show_text(out, digits),
         Written::Refused(refusal) => {
             io::write_all(STDOUT_FILENO, b"-");
-            show_last(number_of(refusal));
+            show_last(table::number(refusal));
         }
     }
 }
@@ -279,7 +259,7 @@ fn show_made(made: Made, table: &[u32], stack: &mut [u32], out: &mut [u8]) {
             show(used);
             show_node(table, used, stack, node, out);
         }
-        Made::Refused(refusal) => show_last(number_of(refusal)),
+        Made::Refused(refusal) => show_last(table::number(refusal)),
     }
 }
 
@@ -296,7 +276,7 @@ fn show_applied(applied: Applied, used: usize, table: &[u32], stack: &mut [u32],
             show(less(used_then, used));
             show_node(table, used_then, stack, node, out);
         }
-        Applied::Refused(refusal) => show_last(number_of(refusal)),
+        Applied::Refused(refusal) => show_last(table::number(refusal)),
     }
 }
 
@@ -344,7 +324,7 @@ fn show_same(
                 show_last(0);
             }
         }
-        Written::Refused(refusal) => show_last(number_of(refusal)),
+        Written::Refused(refusal) => show_last(table::number(refusal)),
     }
 }
 
@@ -365,7 +345,7 @@ fn repeat_command(
             show(used);
             show_same(table, used, stack, node, &bytes[0..n], out);
         }
-        Made::Refused(refusal) => show_last(number_of(refusal)),
+        Made::Refused(refusal) => show_last(table::number(refusal)),
     }
 }
 
@@ -399,7 +379,7 @@ fn write_command(
             let written = text::write(&table[0..t], used, &mut stack[0..s], node, &mut out[0..o]);
             show_written(written, out);
         }
-        Made::Refused(refusal) => show_last(number_of(refusal)),
+        Made::Refused(refusal) => show_last(table::number(refusal)),
     }
 }
 
@@ -435,7 +415,7 @@ fn share_command(line: &[u8], table: &mut [u32], stack: &mut [u32], out: &mut [u
             show(0);
             show_last(digits);
         }
-        Written::Refused(refusal) => show_last(number_of(refusal)),
+        Written::Refused(refusal) => show_last(table::number(refusal)),
     }
 }
 
@@ -571,7 +551,7 @@ fn apply_command(
     let loaded = load_all(line, 4, table, stack, bytes, &mut nodes);
     match loaded {
         Loaded::Trees { count, used } => apply_loaded(line, table, used, stack, nodes, count, out),
-        Loaded::Refused(refusal) => show_last(number_of(refusal)),
+        Loaded::Refused(refusal) => show_last(table::number(refusal)),
     }
 }
 
@@ -590,7 +570,7 @@ fn label_command(
             let made = label::label(&mut table[0..t], used, nodes[0], nodes[1]);
             show_made(made, table, stack, out);
         }
-        Loaded::Refused(refusal) => show_last(number_of(refusal)),
+        Loaded::Refused(refusal) => show_last(table::number(refusal)),
     }
 }
 
@@ -695,7 +675,7 @@ fn packet_command(
             show_text(out, digits);
         }
         Ran::Refused(refusal) => {
-            show(number_of(refusal));
+            show(table::number(refusal));
             show(0);
             show(0);
             show_text(b"-", 1);

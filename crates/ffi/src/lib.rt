@@ -2,7 +2,7 @@
 // arguments, a pointer and a length. An answer is five numbers in an array that the caller lends: refusal, node, used, steps and digits.
 // The definitions are in specs/.
 ghost use mathlib.Core.Path.{_≡_};
-ghost use Rattle.table.specs.Refusal.{number, refusedNumbers, madeNumbers};
+ghost use Rattle.table.specs.Refusal.{refusedNumbers, madeNumbers};
 ghost use Rattle.table.specs.Outcome.{whole};
 ghost use Rattle.ternary.specs.Read as reading;
 ghost use Rattle.ternary.specs.Write as writing;
@@ -17,29 +17,11 @@ use table::Made;
 use table::Refusal;
 use ternary::Written;
 
-// A refusal's number.
-fn number(refusal: Refusal) -> usize
-    ensures { λ r. ⌜ r ≡ number refusal ⌝ }
-{
-    match refusal {
-        Refusal::Limits => 1,
-        Refusal::Broken => 2,
-        Refusal::Node => 3,
-        Refusal::Text => 4,
-        Refusal::Rule => 5,
-        Refusal::Packet => 6,
-        Refusal::Steps => 7,
-        Refusal::Nodes => 8,
-        Refusal::Frames => 9,
-        Refusal::Out => 10,
-    }
-}
-
 // The numbers of a refusal, with `used` as at entry.
 fn refused(used: usize, refusal: Refusal) -> [usize; 5]
     ensures { λ r. ⌜ r ≡ listed (refusedNumbers used refusal) ⌝ }
 {
-    let n = number(refusal);
+    let n = table::number(refusal);
     [n, 0, used, 0, 0]
 }
 

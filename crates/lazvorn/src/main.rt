@@ -1,29 +1,8 @@
 // The program: a packet on standard input, one line on standard output: refusal or 0, steps, used and text, parted by blanks, with a dash for the
 // text of what was refused.
-ghost use mathlib.Core.Path.{_≡_};
-ghost use Rattle.table.specs.Refusal as refusals;
 use libc::STDIN_FILENO;
 use libc::STDOUT_FILENO;
 use running::Ran;
-use table::Refusal;
-
-// The paper's number of a refusal.
-fn number(refusal: Refusal) -> u64
-    ensures { λ r. ⌜ r ≡ refusals.number refusal ⌝ }
-{
-    match refusal {
-        Refusal::Limits => 1,
-        Refusal::Broken => 2,
-        Refusal::Node => 3,
-        Refusal::Text => 4,
-        Refusal::Rule => 5,
-        Refusal::Packet => 6,
-        Refusal::Steps => 7,
-        Refusal::Nodes => 8,
-        Refusal::Frames => 9,
-        Refusal::Out => 10,
-    }
-}
 
 // Writes a line.
 fn print(refusal: u64, steps: u64, used: u64, text: &[u8]) {
@@ -48,7 +27,7 @@ fn answer(packet: &[u8]) {
             used,
             digits,
         } => print(0, steps as u64, used as u64, &out[..digits]),
-        Ran::Refused(refusal) => print(number(refusal), 0, 0, b"-"),
+        Ran::Refused(refusal) => print(table::number(refusal) as u64, 0, 0, b"-"),
     }
 }
 

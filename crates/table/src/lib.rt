@@ -6,6 +6,7 @@ ghost use lib.ListN.{length, getD};
 ghost use Rattle.table.specs.Nodes.{broken, sound, make, cleared};
 ghost use Rattle.table.specs.Outcome.{atEntry};
 ghost use Rattle.table.specs.Code.{placedBy, refusalOf};
+ghost use Rattle.table.specs.Refusal.{number};
 
 // Why an operation was refused. `specs/Refusal.antt` gives the number of each.
 pub enum Refusal {
@@ -47,6 +48,24 @@ pub enum Checked {
 pub struct NewNode {
     pub node: usize,
     pub used: usize,
+}
+
+// The number of a refusal.
+pub fn number(refusal: Refusal) -> usize
+    ensures { λ r. ⌜ r ≡ number refusal ⌝ }
+{
+    match refusal {
+        Refusal::Limits => 1,
+        Refusal::Broken => 2,
+        Refusal::Node => 3,
+        Refusal::Text => 4,
+        Refusal::Rule => 5,
+        Refusal::Packet => 6,
+        Refusal::Steps => 7,
+        Refusal::Nodes => 8,
+        Refusal::Frames => 9,
+        Refusal::Out => 10,
+    }
 }
 
 // A lent word as a number.

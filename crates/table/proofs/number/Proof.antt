@@ -1,8 +1,8 @@
--- `examples::number_of` meets its contract, case by case. Assumes nothing.
+-- `table::number` meets its contract: each refusal has its number. Assumes nothing.
 use Rattle.table.specs.Refusal.{number}
 use borrow.Author.Needs.{needs}
-use Rattle.examples.proofs.number_of.Statement.{statement}
-use Rattle.examples.proofs.number_of.Tie as tie
+use Rattle.table.proofs.number.Statement.{statement}
+use Rattle.table.proofs.number.Tie as tie
 
 enum-told : tie.Need-enum-told
 enum-told c = search needs
@@ -36,46 +36,46 @@ enum-told-10 c = search needs
 
 returns : tie.Need-returns
 unfolding number
-returns c = search needs
+returns c = rw (c .enum-told .given .1)
 
 returns-2 : tie.Need-returns-2
 unfolding number
-returns-2 c = search needs
+returns-2 c = rw (c .enum-told2 .given .1)
 
 returns-3 : tie.Need-returns-3
 unfolding number
-returns-3 c = search needs
+returns-3 c = rw (c .enum-told3 .given .1)
 
 returns-4 : tie.Need-returns-4
 unfolding number
-returns-4 c = search needs
+returns-4 c = rw (c .enum-told4 .given .1)
 
 returns-5 : tie.Need-returns-5
 unfolding number
-returns-5 c = search needs
+returns-5 c = rw (c .enum-told5 .given .1)
 
 returns-6 : tie.Need-returns-6
 unfolding number
-returns-6 c = search needs
+returns-6 c = rw (c .enum-told6 .given .1)
 
 returns-7 : tie.Need-returns-7
 unfolding number
-returns-7 c = search needs
+returns-7 c = rw (c .enum-told7 .given .1)
 
 returns-8 : tie.Need-returns-8
 unfolding number
-returns-8 c = search needs
+returns-8 c = rw (c .enum-told8 .given .1)
 
 returns-9 : tie.Need-returns-9
 unfolding number
-returns-9 c = search needs
+returns-9 c = rw (c .enum-told9 .given .1)
 
 returns-10 : tie.Need-returns-10
 unfolding number
-returns-10 c = search needs
+returns-10 c = rw (c .enum-told10 .given .1)
 
-pub number-of-spec : {M : Type 1} → statement M
-number-of-spec =
+pub number-spec : {M : Type 1} → statement M
+number-spec =
     tie.close
     (tie.spec
     enum-told
