@@ -3,13 +3,13 @@ use Prim.Native.Nat.{ℕ}
 use Rattle.calculus.specs.Tree.{Tree}
 use Rattle.calculus.specs.Rules.{Apply, by-leaf, by-stem, by-drop, by-spread, by-triage}
 use Rattle.calculus.specs.Abstraction.{Combination, app, term}
-use Rattle.calculus.specs.Equations.{Equal, same, joined, inside, drop, spread, triage}
+use Rattle.calculus.specs.Equations.{Equal, same, joined, inside, of-drop, of-spread, of-triage}
 
 -- Where f applied to N gives r, that is so by the equations.
 pub apply-equal : {f N r : Tree} {k : ℕ} → Apply f N r k → Equal (app (term f) (term N)) (term r)
 unfolding term
 apply-equal by-leaf = same
 apply-equal by-stem = same
-apply-equal by-drop = drop
-apply-equal (by-spread a b c) = joined spread (joined (inside (apply-equal a) (apply-equal b)) (apply-equal c))
-apply-equal (by-triage a b) = joined triage (joined (inside (apply-equal a) same) (apply-equal b))
+apply-equal by-drop = of-drop
+apply-equal (by-spread a b c) = joined of-spread (joined (inside (apply-equal a) (apply-equal b)) (apply-equal c))
+apply-equal (by-triage a b) = joined of-triage (joined (inside (apply-equal a) same) (apply-equal b))

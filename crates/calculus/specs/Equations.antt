@@ -9,8 +9,8 @@ pub data Equal : Combination → Combination → Type 0 where
   joined : {u v w : Combination} → Equal u v → Equal v w → Equal u w
   inside : {u v s t : Combination} → Equal u v → Equal s t → Equal (app u s) (app v t)
   -- ΔΔyz = y
-  drop : {y z : Combination} → Equal (app (app (app leaf leaf) y) z) y
+  of-drop : {y z : Combination} → Equal (app (app (app leaf leaf) y) z) y
   -- Δ(Δx)yz = (yz)(xz)
-  spread : {x y z : Combination} → Equal (app (app (app leaf (app leaf x)) y) z) (app (app y z) (app x z))
+  of-spread : {x y z : Combination} → Equal (app (app (app leaf (app leaf x)) y) z) (app (app y z) (app x z))
   -- Δ(Δwx)yz = zwx
-  triage : {w x y z : Combination} → Equal (app (app (app leaf (app (app leaf w) x)) y) z) (app (app z w) x)
+  of-triage : {w x y z : Combination} → Equal (app (app (app leaf (app (app leaf w) x)) y) z) (app (app z w) x)

@@ -5,13 +5,13 @@ use native.Mathlib.Omega.{arith}
 use Rattle.calculus.specs.Tree.{Tree, leaf, stem, fork}
 use Rattle.calculus.specs.Rules.{Apply, by-leaf, by-stem, by-drop, by-spread, by-triage}
 use Rattle.calculus.specs.Abstraction.{Combination, app, term}
-use Rattle.calculus.specs.Equations.{Equal, same, joined, inside, drop, spread}
+use Rattle.calculus.specs.Equations.{Equal, same, joined, inside, of-drop, of-spread}
 use Rattle.label.specs.Label.{labelled}
 
 -- "By the equations, this on any argument equals f on it." (Operations, Label) The argument is any term, whether or not it has a tree.
 pub labelled-equal : (f t : Tree) (z : Combination) → Equal (app (term (labelled f t)) z) (app (term f) z)
 unfolding term
-labelled-equal f t z = joined spread (joined (inside (joined spread (inside drop same)) same) drop)
+labelled-equal f t z = joined of-spread (joined (inside (joined of-spread (inside of-drop same)) same) of-drop)
 
 -- Branch-first, where the label t ends on the argument too, the labelled tree gives what the rule f gives, in five steps more than both.
 pub labelled-gives : {f t N r x : Tree} {a b : ℕ} → Apply f N r a → Apply t N x b → Apply (labelled f t) N r (a + b + 5)
