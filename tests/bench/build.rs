@@ -48,10 +48,10 @@ fn compile(compiler: &str, out: &Path) -> Option<[PathBuf; 2]> {
     ])
 }
 
-/// Links an object or an archive into NAME_PLACE.so for each place.
+/// Links an object or an archive into NAME_K.so for each place K.
 fn link(linker: &str, object: &Path, out: &Path) {
     let name = object.file_stem().expect("a file").to_string_lossy();
-    for place in PLACES {
+    for (k, place) in PLACES.into_iter().enumerate() {
         let bytes = ".byte 0x90\n".repeat(place);
         let before = out.join(format!("before_{place}.s"));
         let code = format!(".text\n.p2align 6\n{bytes}.section .note.GNU-stack,\"\",@progbits\n");
@@ -63,7 +63,7 @@ fn link(linker: &str, object: &Path, out: &Path) {
             .arg(object)
             .arg("-Wl,--no-whole-archive")
             .arg("-o")
-            .arg(out.join(format!("{name}_{place}.so")))
+            .arg(out.join(format!("{name}_{k}.so")))
             .status();
         assert!(status.is_ok_and(|s| s.success()), "{linker} cannot link");
     }

@@ -1,5 +1,6 @@
-//! A branch-first self-evaluator as a tree (source 001, section 6.4): applied to a program and an
-//! argument, it gives the tree that the program gives on the argument.
+//! A branch-first self-evaluator as a tree: applied to a program and an argument, it gives the tree
+//! that the program gives on the argument. It has the cases of source 001, section 6.4, but recurses
+//! by a wait of its own and has no `eager`, since branch-first an argument is evaluated anyway.
 
 /// A term of leaves, named variables and applications.
 #[derive(Clone)]

@@ -9,13 +9,14 @@ mod plain;
 mod plot;
 mod workloads;
 
+use compare::answer_of;
 use compare::packets::{self, Case};
 use compare::random::Random;
 use compare::trees;
 use measure::{contender, rounds, Contender, Times};
 use std::cell::RefCell;
 use std::hint::black_box;
-use workloads::{answer_of, Workload};
+use workloads::Workload;
 
 const ROUNDS: usize = 101;
 
@@ -42,13 +43,13 @@ mod c {
 
     const NOW: c_int = 2;
 
-    /// How many places of its code each contender is measured at.
+    /// How many places of its code each contender is measured at: those of build.rs.
     pub const PLACES: usize = 4;
 
     /// A function of a shared object, once for each place of its code.
     fn placed(object: &str, function: &str) -> [Apply; PLACES] {
-        [0, 16, 32, 48].map(|place| {
-            let path = format!("{}/{object}_{place}.so", env!("OUT_DIR"));
+        std::array::from_fn(|k| {
+            let path = format!("{}/{object}_{k}.so", env!("OUT_DIR"));
             let path = CString::new(path).expect("a path");
             let function = CString::new(function).expect("a name");
             // The build links each of these functions with the type `Apply`.

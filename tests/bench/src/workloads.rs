@@ -2,6 +2,7 @@
 
 use crate::evaluator::evaluator;
 use crate::plain::Answer;
+use compare::answer_of;
 use compare::packets::Parts;
 
 /// One application, ready to be made over and over: a call writes only nodes past `used` and the
@@ -38,16 +39,6 @@ fn times(n: usize) -> Vec<u8> {
 
 fn text_of(rule: &[u8]) -> Vec<u8> {
     model::rule_text(rule, 10_000).expect("a rule of moderate size")
-}
-
-pub fn answer_of(numbers: lazvorn::Numbers) -> Answer {
-    [
-        numbers.refusal,
-        numbers.node,
-        numbers.used,
-        numbers.steps,
-        numbers.digits,
-    ]
 }
 
 /// The text of what a rule gives on arguments.

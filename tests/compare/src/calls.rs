@@ -1,7 +1,8 @@
 //! Read, Write, Translate, Apply and Label beside the model, on tables that are sound, broken or
 //! noise, with lengths and numbers at and beyond every border.
 
-use crate::{answer_of, difference, hexadecimal, Counts, Noise};
+use crate::{difference, hexadecimal, Counts, Noise};
+use compare::answer_of;
 use compare::random::Random;
 use compare::trees;
 use model::{Answer, Memory};

@@ -9,7 +9,7 @@ mod calls;
 mod runs;
 
 use compare::random::Random;
-use model::{Answer, Memory};
+use model::Memory;
 
 /// How many packets and how many calls a run compares if nothing else is asked.
 const PACKETS: usize = 120_000;
@@ -53,17 +53,6 @@ impl Noise {
             out: self.bytes[o..o + out].to_vec(),
         }
     }
-}
-
-/// The numbers of an answer from the engine.
-pub fn answer_of(numbers: lazvorn::Numbers) -> Answer {
-    [
-        numbers.refusal,
-        numbers.node,
-        numbers.used,
-        numbers.steps,
-        numbers.digits,
-    ]
 }
 
 pub fn hexadecimal(bytes: &[u8]) -> String {

@@ -1,6 +1,7 @@
 //! Run beside the second evaluator and the model.
 
-use crate::{answer_of, difference, hexadecimal, Counts, Noise};
+use crate::{difference, hexadecimal, Counts, Noise};
+use compare::answer_of;
 use compare::packets::{self, Case};
 use compare::random::Random;
 use model::{Answer, Memory};
