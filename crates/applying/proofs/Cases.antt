@@ -16,7 +16,7 @@ use Rattle.table.proofs.Words.{and-left, and-right}
 use Rattle.table.proofs.Entry.{Entered, entered}
 use Rattle.applying.specs.declared.Applied.the-variants.{Node, Refused}
 use Rattle.applying.specs.Machine.{uses}
-use Rattle.applying.specs.Apply.{settle, begin, apply}
+use Rattle.applying.specs.Apply.{settle, begin, applyNodes, apply}
 use Rattle.applying.specs.States.{Good}
 use Rattle.applying.proofs.States.{cond-by}
 
@@ -67,7 +67,7 @@ pub data Ways (w : List ℕ) (u : ℕ) (s : List ℕ) (f n limit : ℕ) : Type 0
       → apply w u s f n limit ≡ settle u s (uses (frames s) limit (begin w u f n)) → Ways w u s f n limit
 
 pub ways : (w : List ℕ) (u : ℕ) (s : List ℕ) (f n limit : ℕ) → Ways w u s f n limit
-unfolding apply
+unfolding apply applyNodes
 ways w u s f n limit = go (atEntry (leb limit 1000000) w u s) refl (checked (leb limit 1000000) w u s) (ltb f u && ltb n u) refl
   where
     go : (a : Option Refusal) → atEntry (leb limit 1000000) w u s ≡ a → Checked a → (b : Bool) → (ltb f u && ltb n u) ≡ b → Ways w u s f n limit

@@ -17,7 +17,7 @@ use Rattle.table.proofs.Trees.{kept-refl}
 use Rattle.table.proofs.Entry.{Entered, enters}
 use Rattle.applying.specs.declared.Applied.the-variants.{Node, Refused}
 use Rattle.applying.specs.Machine.{State, Turn, more, done, stop, turn, after, uses}
-use Rattle.applying.specs.Apply.{settle, begin, apply}
+use Rattle.applying.specs.Apply.{settle, begin, applyNodes, apply}
 use Rattle.applying.specs.States.{Good}
 use Rattle.applying.proofs.States.{tableOf, Later, turn-later, Counted, turn-steps}
 use Rattle.applying.proofs.Leads.{Leads, TurnLeads, leads-same, leads-after, uses-some, and-then}
@@ -56,7 +56,7 @@ Gives w u s f n limit r k = (v : ℕ) × (u′ : ℕ) × (apply w u s f n limit 
 pub apply-complete : {w : List ℕ} {u : ℕ} {s : List ℕ} {f n limit : ℕ} → Entered (leb limit 1000000) w u s → f < u → n < u
     → {r : Tree} {k : ℕ} → Apply (treeAt w f) (treeAt w n) r k → k ≤ limit
     → Gives w u s f n limit r k ⊎ (apply w u s f n limit .answer ≡ Refused Nodes) ⊎ (apply w u s f n limit .answer ≡ Refused Frames)
-unfolding apply settle stopped
+unfolding apply applyNodes settle stopped
 apply-complete {w} {u} {s} {f} {n} {limit} e h l {r} {k} d m =
     rw (enters e, lt-ltb f u h, lt-ltb n u l)
     (by (uses all limit b) refl (uses-end limit (good-begin e h l) r k (and-then 0 d (refl, refl) (omega arith)) m))

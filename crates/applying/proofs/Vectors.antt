@@ -28,7 +28,7 @@ onLeaf free held limit = apply (texts ++ replicate free 9) 13 (replicate held 5)
 pub gives : onLeaf 12 7 10 ≡ whole (Node 17 18 10) (texts ++ (1 ∷ 13 ∷ 13 ∷ 0 ∷ 6 ∷ 13 ∷ 13 ∷ 0 ∷ 13 ∷ 0 ∷ 9 ∷ 9 ∷ [])) (replicate 7 0)
 unfolding nodes.broken nodes.sound nodes.make outcome.fits outcome.atEntry outcome.stopped
     machine.forkRule machine.rule machine.resume machine.grow machine.hold machine.useRule machine.turn machine.after machine.uses
-    machine-apply.settle machine-apply.apply
+    machine-apply.settle machine-apply.applyNodes machine-apply.apply
 gives = refl
 
 -- "with limit 9: 7. With 4 free nodes: 8. With 1 frame: 9. With limit 9 and 4 free nodes: 7."
@@ -40,7 +40,7 @@ pub refuses : onLeaf 12 7 9 ∷ onLeaf 9 7 10 ∷ onLeaf 12 5 10 ∷ onLeaf 9 7 
     ∷ []
 unfolding nodes.broken nodes.sound nodes.make outcome.fits outcome.atEntry outcome.stopped
     machine.forkRule machine.rule machine.resume machine.grow machine.hold machine.useRule machine.turn machine.after machine.uses
-    machine-apply.settle machine-apply.apply
+    machine-apply.settle machine-apply.applyNodes machine-apply.apply
 refuses = refl
 
 -- "22000 on 0 gives 200 in 3 steps": triage, with one frame
@@ -48,7 +48,7 @@ pub triages : apply (0 ∷ 0 ∷ 0 ∷ 0 ∷ 0 ∷ 0 ∷ 3 ∷ 2 ∷ 4 ∷ 1 ∷
     ≡ whole (Node 7 8 3) (0 ∷ 0 ∷ 0 ∷ 0 ∷ 0 ∷ 0 ∷ 3 ∷ 2 ∷ 4 ∷ 1 ∷ 0 ∷ 0 ∷ 3 ∷ 0 ∷ 3 ∷ 2 ∷ []) (0 ∷ 0 ∷ 0 ∷ [])
 unfolding nodes.broken nodes.sound nodes.make outcome.fits outcome.atEntry outcome.stopped
     machine.forkRule machine.rule machine.resume machine.grow machine.hold machine.useRule machine.turn machine.after machine.uses
-    machine-apply.settle machine-apply.apply
+    machine-apply.settle machine-apply.applyNodes machine-apply.apply
 triages = refl
 
 -- The checks in order, each of which leaves the words as found: "1, also for a step limit above 1,000,000. 2. 3 for either number."

@@ -27,10 +27,14 @@ settle u s (stop e t) = stopped (Refused e) t u s
 abbrev pub begin : List ℕ → ℕ → ℕ → ℕ → State
 begin w u f n = record { table = record { words = w; used = u }; function = f; argument = n; frames = []; steps = 0 }
 
+-- what Apply does on a table that passed 1 and 2, with two nodes in use: "Then 7, 8, 9 as the rules say."
+unfoldable pub applyNodes : List ℕ → ℕ → List ℕ → ℕ → ℕ → ℕ → Outcome Applied
+applyNodes w u s f n limit = settle u s (uses (frames s) limit (begin w u f n))
+
 -- Apply node f to node n of the table w with u nodes in use, with the stack s: "1, also for a step limit above 1,000,000. 2. 3 for either
 -- number. Then 7, 8, 9 as the rules say."
 unfoldable pub apply : List ℕ → ℕ → List ℕ → ℕ → ℕ → ℕ → Outcome Applied
 apply w u s f n limit =
     unless (atEntry (leb limit 1000000) w u s) (λ e. whole (Refused e) w s)
-    (cond (ltb f u && ltb n u) (settle u s (uses (frames s) limit (begin w u f n)))
+    (cond (ltb f u && ltb n u) (applyNodes w u s f n limit)
     (whole (Refused refusal.Node) w s))

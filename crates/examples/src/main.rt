@@ -220,7 +220,7 @@ fn show_written(written: Written, out: &[u8]) {
             show(digits);
             show_text(out, digits);
         }
-        Written::Refused(refusal) => show_last(table::number(refusal)),
+        Written::Refused(refusal) => show_last(checks::number(refusal)),
     }
 }
 
@@ -245,7 +245,7 @@ fn show_node(table: &[u32], used: usize, stack: &mut [u32], node: usize, out: &m
         Written::Digits(digits) => show_text(out, digits),
         Written::Refused(refusal) => {
             io::write_all(STDOUT_FILENO, b"-");
-            show_last(table::number(refusal));
+            show_last(checks::number(refusal));
         }
     }
 }
@@ -259,7 +259,7 @@ fn show_made(made: Made, table: &[u32], stack: &mut [u32], out: &mut [u8]) {
             show(used);
             show_node(table, used, stack, node, out);
         }
-        Made::Refused(refusal) => show_last(table::number(refusal)),
+        Made::Refused(refusal) => show_last(checks::number(refusal)),
     }
 }
 
@@ -276,7 +276,7 @@ fn show_applied(applied: Applied, used: usize, table: &[u32], stack: &mut [u32],
             show(less(used_then, used));
             show_node(table, used_then, stack, node, out);
         }
-        Applied::Refused(refusal) => show_last(table::number(refusal)),
+        Applied::Refused(refusal) => show_last(checks::number(refusal)),
     }
 }
 
@@ -324,7 +324,7 @@ fn show_same(
                 show_last(0);
             }
         }
-        Written::Refused(refusal) => show_last(table::number(refusal)),
+        Written::Refused(refusal) => show_last(checks::number(refusal)),
     }
 }
 
@@ -345,7 +345,7 @@ fn repeat_command(
             show(used);
             show_same(table, used, stack, node, &bytes[0..n], out);
         }
-        Made::Refused(refusal) => show_last(table::number(refusal)),
+        Made::Refused(refusal) => show_last(checks::number(refusal)),
     }
 }
 
@@ -379,7 +379,7 @@ fn write_command(
             let written = text::write(&table[0..t], used, &mut stack[0..s], node, &mut out[0..o]);
             show_written(written, out);
         }
-        Made::Refused(refusal) => show_last(table::number(refusal)),
+        Made::Refused(refusal) => show_last(checks::number(refusal)),
     }
 }
 
@@ -390,9 +390,9 @@ fn share(table: &mut [u32], levels: usize) -> usize {
     if table.len() < 131072 {
         return 0;
     }
-    table::new_node(table, 0, 0, 0);
+    nodes::new_node(table, 0, 0, 0);
     while used <= most {
-        table::new_node(table, used, used, used);
+        nodes::new_node(table, used, used, used);
         used += 1;
     }
     used
@@ -415,7 +415,7 @@ fn share_command(line: &[u8], table: &mut [u32], stack: &mut [u32], out: &mut [u
             show(0);
             show_last(digits);
         }
-        Written::Refused(refusal) => show_last(table::number(refusal)),
+        Written::Refused(refusal) => show_last(checks::number(refusal)),
     }
 }
 
@@ -551,7 +551,7 @@ fn apply_command(
     let loaded = load_all(line, 4, table, stack, bytes, &mut nodes);
     match loaded {
         Loaded::Trees { count, used } => apply_loaded(line, table, used, stack, nodes, count, out),
-        Loaded::Refused(refusal) => show_last(table::number(refusal)),
+        Loaded::Refused(refusal) => show_last(checks::number(refusal)),
     }
 }
 
@@ -570,7 +570,7 @@ fn label_command(
             let made = label::label(&mut table[0..t], used, nodes[0], nodes[1]);
             show_made(made, table, stack, out);
         }
-        Loaded::Refused(refusal) => show_last(table::number(refusal)),
+        Loaded::Refused(refusal) => show_last(checks::number(refusal)),
     }
 }
 
@@ -675,7 +675,7 @@ fn packet_command(
             show_text(out, digits);
         }
         Ran::Refused(refusal) => {
-            show(table::number(refusal));
+            show(checks::number(refusal));
             show(0);
             show(0);
             show_text(b"-", 1);

@@ -1,2 +1,2 @@
--- The laws that the proofs of the exported functions cite.
-mod Telling
+-- The law that the proofs of the exported functions cite.
+mod Numbered

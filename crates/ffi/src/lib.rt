@@ -2,15 +2,16 @@
 // arguments, a pointer and a length. An answer is five numbers in an array that the caller lends: refusal, node, used, steps and digits.
 // The definitions are in specs/.
 ghost use mathlib.Core.Path.{_≡_};
+ghost use mathlib.Core.List.{[]};
 ghost use Rattle.table.specs.Refusal.{refusedNumbers, madeNumbers};
-ghost use Rattle.table.specs.Outcome.{whole};
+ghost use Rattle.table.specs.Outcome.{whole, wholeOut};
 ghost use Rattle.ternary.specs.Read as reading;
 ghost use Rattle.ternary.specs.Write as writing;
 ghost use Rattle.translation.specs.Translate as translating;
 ghost use Rattle.applying.specs.Apply as applying;
 ghost use Rattle.label.specs.Label as labelling;
 ghost use Rattle.running.specs.Run as running;
-ghost use Rattle.ffi.specs.Boundary.{listed, told, left, toldWritten, labelled, toldLabel, toldRan};
+ghost use Rattle.ffi.specs.Boundary.{listed, numbered};
 use applying::Applied;
 use running::Ran;
 use table::Made;
@@ -21,7 +22,7 @@ use ternary::Written;
 fn refused(used: usize, refusal: Refusal) -> [usize; 5]
     ensures { λ r. ⌜ r ≡ listed (refusedNumbers used refusal) ⌝ }
 {
-    let n = table::number(refusal);
+    let n = checks::number(refusal);
     [n, 0, used, 0, 0]
 }
 
@@ -83,7 +84,7 @@ pub extern "C" fn lazvorn_read(
     answer: &mut [usize; 5],
 )
     ensures { λ _. ⌜ whole (now (answer .exit)) (now (table .exit)) (now (stack .exit))
-        ≡ told (madeNumbers used) (reading.read (now (table .entry)) used (now (stack .entry)) (now (text .entry))) ⌝ }
+        ≡ numbered (madeNumbers used) (reading.read (now (table .entry)) used (now (stack .entry)) (now (text .entry))) ⌝ }
 {
     let read = text::read(table, used, stack, text);
     *answer = made(used, read);
@@ -99,8 +100,8 @@ pub extern "C" fn lazvorn_write(
     out: &mut [u8],
     answer: &mut [usize; 5],
 )
-    ensures { λ _. ⌜ left (now (answer .exit)) (now (table .entry)) (now (stack .exit)) (now (out .exit))
-        ≡ toldWritten used (writing.write (now (table .entry)) used (now (stack .entry)) node (now (out .entry))) ⌝ }
+    ensures { λ _. ⌜ wholeOut (now (answer .exit)) (now (table .entry)) (now (stack .exit)) (now (out .exit))
+        ≡ numbered (writing.writtenNumbers used) (writing.write (now (table .entry)) used (now (stack .entry)) node (now (out .entry))) ⌝ }
 {
     let wrote = text::write(table, used, stack, node, out);
     *answer = written(used, wrote);
@@ -116,7 +117,7 @@ pub extern "C" fn lazvorn_translate(
     answer: &mut [usize; 5],
 )
     ensures { λ _. ⌜ whole (now (answer .exit)) (now (table .exit)) (now (stack .exit))
-        ≡ told (madeNumbers used) (translating.translate (now (table .entry)) used (now (stack .entry)) (now (bytes .entry))) ⌝ }
+        ≡ numbered (madeNumbers used) (translating.translate (now (table .entry)) used (now (stack .entry)) (now (bytes .entry))) ⌝ }
 {
     let translated = term::translate(table, used, stack, bytes);
     *answer = made(used, translated);
@@ -134,7 +135,7 @@ pub extern "C" fn lazvorn_apply(
     answer: &mut [usize; 5],
 )
     ensures { λ _. ⌜ whole (now (answer .exit)) (now (table .exit)) (now (stack .exit))
-        ≡ told (applying.appliedNumbers used) (applying.apply (now (table .entry)) used (now (stack .entry)) function argument limit) ⌝ }
+        ≡ numbered (applying.appliedNumbers used) (applying.apply (now (table .entry)) used (now (stack .entry)) function argument limit) ⌝ }
 {
     let outcome = machine::apply(table, used, stack, function, argument, limit);
     *answer = applied(used, outcome);
@@ -149,8 +150,8 @@ pub extern "C" fn lazvorn_label(
     label: usize,
     answer: &mut [usize; 5],
 )
-    ensures { λ _. ⌜ labelled (now (answer .exit)) (now (table .exit))
-        ≡ toldLabel used (labelling.label (now (table .entry)) used rule label) ⌝ }
+    ensures { λ _. ⌜ whole (now (answer .exit)) (now (table .exit)) []
+        ≡ numbered (madeNumbers used) (labelling.label (now (table .entry)) used rule label) ⌝ }
 {
     let labelled = label::label(table, used, rule, label);
     *answer = made(used, labelled);
@@ -165,8 +166,8 @@ pub extern "C" fn lazvorn_run(
     packet: &[u8],
     answer: &mut [usize; 5],
 )
-    ensures { λ _. ⌜ left (now (answer .exit)) (now (table .exit)) (now (stack .exit)) (now (out .exit))
-        ≡ toldRan (running.run (now (table .entry)) (now (stack .entry)) (now (out .entry)) (now (packet .entry))) ⌝ }
+    ensures { λ _. ⌜ wholeOut (now (answer .exit)) (now (table .exit)) (now (stack .exit)) (now (out .exit))
+        ≡ numbered running.ranNumbers (running.run (now (table .entry)) (now (stack .entry)) (now (out .entry)) (now (packet .entry))) ⌝ }
 {
     let result = run::run(table, stack, out, packet);
     *answer = ran(result);

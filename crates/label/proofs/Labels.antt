@@ -9,7 +9,7 @@ use lib.Dec.{ltb}
 use borrow.Author.Tests.{ltb-true, ltb-false}
 use Rattle.calculus.specs.Tree.{Tree, leaf, stem, fork}
 use Rattle.table.specs.Nodes.{Table, Placed, capacity, Sound, treeAt, make}
-use Rattle.table.specs.Outcome.{atEntry, unless}
+use Rattle.table.specs.Outcome.{Outcome, whole, placed, atEntry, unless}
 use Rattle.table.specs.declared.Refusal.{Refusal}
 use Rattle.table.specs.declared.Refusal.the-variants.{Nodes}
 use Rattle.table.specs.declared.Refusal.the-variants as refusal
@@ -19,7 +19,7 @@ use Rattle.table.proofs.Trees.{Extends, extends-refl, extends-trans}
 use Rattle.table.proofs.Making.{Places, Has, has, stays, stem-of, fork-of, make-used, make-leaf}
 use Rattle.table.proofs.Entry.{Entered, entered}
 use Rattle.table.proofs.Laid.{refused-made}
-use Rattle.label.specs.Label.{labelled, Outcome, whole, nodes, placed, label}
+use Rattle.label.specs.Label.{labelled, nodes, label}
 
 -- z is t with k nodes more
 record Grown (t : Table) (k : ℕ) (z : Table) : Type 0 where
@@ -69,12 +69,12 @@ pub record Labels (w : List ℕ) (u f t v u′ : ℕ) : Type 0 where
 
 module _ (w : List ℕ) (u f t v u′ : ℕ) where
   -- the outcome o, as far as the checks have come
-  Gives : Outcome → Type 0
+  Gives : Outcome Made → Type 0
   Gives o =
       o .answer ≡ Node v u′
       → (f < u) × (t < u) × Places (record { words = w; used = u }) (record { table = record { words = o .table; used = u′ }; node = v }) (labelled (treeAt w f) (treeAt w t)) × (u′ ≡ u + 7)
 
-  from-nodes : Sound (record { words = w; used = u }) → f < u → t < u → u + 7 ≤ capacity w → Gives (placed (nodes (record { words = w; used = u }) f t))
+  from-nodes : Sound (record { words = w; used = u }) → f < u → t < u → u + 7 ≤ capacity w → Gives (placed (nodes (record { words = w; used = u }) f t) [])
   unfolding placed Gives
   from-nodes s hf ht h e =
       let z : Table = record { words = w; used = u } in
@@ -91,12 +91,12 @@ module _ (w : List ℕ) (u f t v u′ : ℕ) where
       )
 
   from-checks : Sound (record { words = w; used = u })
-      → Gives (cond (ltb f u && ltb t u) (cond (ltb (capacity w - u) 7) (whole (Refused Nodes) w) (placed (nodes (record { words = w; used = u }) f t))) (whole (Refused refusal.Node) w))
+      → Gives (cond (ltb f u && ltb t u) (cond (ltb (capacity w - u) 7) (whole (Refused Nodes) w []) (placed (nodes (record { words = w; used = u }) f t) [])) (whole (Refused refusal.Node) w []))
   unfolding Gives
   from-checks s = go (ltb f u && ltb t u) (ltb (capacity w - u) 7) refl refl
     where
       go : (x y : Bool) → (ltb f u && ltb t u) ≡ x → ltb (capacity w - u) 7 ≡ y
-          → Gives (cond x (cond y (whole (Refused Nodes) w) (placed (nodes (record { words = w; used = u }) f t))) (whole (Refused refusal.Node) w))
+          → Gives (cond x (cond y (whole (Refused Nodes) w []) (placed (nodes (record { words = w; used = u }) f t) [])) (whole (Refused refusal.Node) w []))
       go false y h k = λ e. refused-made e
       go true true h k = λ e. refused-made e
       go true false h k =
@@ -107,10 +107,10 @@ module _ (w : List ℕ) (u f t v u′ : ℕ) where
   unfolding label Gives
   label-gives = go (atEntry true w u []) refl
     where
-      o : Outcome
-      o = cond (ltb f u && ltb t u) (cond (ltb (capacity w - u) 7) (whole (Refused Nodes) w) (placed (nodes (record { words = w; used = u }) f t))) (whole (Refused refusal.Node) w)
+      o : Outcome Made
+      o = cond (ltb f u && ltb t u) (cond (ltb (capacity w - u) 7) (whole (Refused Nodes) w []) (placed (nodes (record { words = w; used = u }) f t) [])) (whole (Refused refusal.Node) w [])
 
-      go : (c : Option Refusal) → atEntry true w u [] ≡ c → unless c (λ e. whole (Refused e) w) o .answer ≡ Node v u′ → Labels w u f t v u′
+      go : (c : Option Refusal) → atEntry true w u [] ≡ c → unless c (λ e. whole (Refused e) w []) o .answer ≡ Node v u′ → Labels w u f t v u′
       go (some e) c q = refused-made q
       go none c q =
           let n = entered true w u [] c in
@@ -122,12 +122,12 @@ pub label-refused : (w : List ℕ) (u f t : ℕ) (e : Refusal) → label w u f t
 unfolding label placed
 label-refused w u f t e = go (atEntry true w u []) (ltb f u && ltb t u) (ltb (capacity w - u) 7)
   where
-    z : Outcome
-    z = placed (nodes (record { words = w; used = u }) f t)
+    z : Outcome Made
+    z = placed (nodes (record { words = w; used = u }) f t) []
 
     go : (c : Option Refusal) (x y : Bool)
-        → unless c (λ e. whole (Refused e) w) (cond x (cond y (whole (Refused Nodes) w) z) (whole (Refused refusal.Node) w)) .answer ≡ Refused e
-        → unless c (λ e. whole (Refused e) w) (cond x (cond y (whole (Refused Nodes) w) z) (whole (Refused refusal.Node) w)) .table ≡ w
+        → unless c (λ e. whole (Refused e) w []) (cond x (cond y (whole (Refused Nodes) w []) z) (whole (Refused refusal.Node) w [])) .answer ≡ Refused e
+        → unless c (λ e. whole (Refused e) w []) (cond x (cond y (whole (Refused Nodes) w []) z) (whole (Refused refusal.Node) w [])) .table ≡ w
     go (some c) x y q = refl
     go none false y q = refl
     go none true true q = refl

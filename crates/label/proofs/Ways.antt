@@ -7,12 +7,12 @@ use mathlib.Core.Option.{none, some}
 use native.Mathlib.Omega.{arith}
 use borrow.Author.Tests.{lt-ltb, le-ltb}
 use Rattle.table.specs.Nodes.{Table, Placed, capacity, make}
-use Rattle.table.specs.Outcome.{atEntry}
+use Rattle.table.specs.Outcome.{whole, placed, atEntry}
 use Rattle.table.specs.declared.Refusal.{Refusal}
 use Rattle.table.specs.declared.Refusal.the-variants.{Nodes}
 use Rattle.table.specs.declared.Refusal.the-variants as refusal
 use Rattle.table.specs.declared.Made.the-variants.{Node, Refused}
-use Rattle.label.specs.Label.{whole, nodes, placed, label}
+use Rattle.label.specs.Label.{nodes, label}
 use Rattle.label.specs.Code.{constantNodes, labelNodes}
 
 -- nodes made one after another
@@ -38,26 +38,22 @@ constant-numbers t e = (ap (λ (z : Placed). z .node) e ∙ omega arith, ap (λ 
 
 -- the checks
 module _ (w : List ℕ) (u f t : ℕ) where
-  pub refused-entry : {e : Refusal} → some e ≡ atEntry true w u [] → whole (Refused e) w ≡ label w u f t
-  unfolding label
-  refused-entry q = rw (← q)
-
   module _ (q : none ≡ atEntry true w u []) where
-    pub no-rule : u ≤ f → whole (Refused refusal.Node) w ≡ label w u f t
+    pub no-rule : u ≤ f → whole (Refused refusal.Node) w [] ≡ label w u f t
     unfolding label
     no-rule h = rw (← q, le-ltb f u h)
 
     module _ (h : f < u) where
-      pub no-label : u ≤ t → whole (Refused refusal.Node) w ≡ label w u f t
+      pub no-label : u ≤ t → whole (Refused refusal.Node) w [] ≡ label w u f t
       unfolding label
       no-label k = rw (← q, lt-ltb f u h, le-ltb t u k)
 
       module _ (k : t < u) where
-        pub no-nodes : capacity w - u < 7 → whole (Refused Nodes) w ≡ label w u f t
+        pub no-nodes : capacity w - u < 7 → whole (Refused Nodes) w [] ≡ label w u f t
         unfolding label
         no-nodes l = rw (← q, lt-ltb f u h, lt-ltb t u k, lt-ltb (capacity w - u) 7 l)
 
         pub is-labelled : 7 ≤ capacity w - u → {m : Placed} → m ≡ nodes (record { words = w; used = u }) f t
-            → whole (Node (m .node) (m .table .used)) (m .table .words) ≡ label w u f t
+            → whole (Node (m .node) (m .table .used)) (m .table .words) [] ≡ label w u f t
         unfolding label placed
         is-labelled l e = rw (← q, lt-ltb f u h, lt-ltb t u k, le-ltb (capacity w - u) 7 l, e)

@@ -5,23 +5,15 @@ use mathlib.Core.List.{List, []}
 use lib.Dec.{ltb}
 use Rattle.calculus.specs.Tree.{Tree, leaf, stem, fork}
 use Rattle.table.specs.Nodes.{Table, Placed, capacity, make}
-use Rattle.table.specs.Outcome.{atEntry, unless}
+use Rattle.table.specs.Outcome.{Outcome, whole, placed, atEntry, unless}
 use Rattle.table.specs.declared.Refusal.the-variants.{Nodes}
 use Rattle.table.specs.declared.Refusal.the-variants as refusal
 use Rattle.table.specs.declared.Made.{Made}
-use Rattle.table.specs.declared.Made.the-variants.{Node, Refused}
+use Rattle.table.specs.declared.Made.the-variants.{Refused}
 
 -- "Label a rule with a label tree t (section 5.4): Δ(Δt)(Δ(Δf)(KK))." K is ΔΔ and KK is ΔΔ(ΔΔ).
 abbrev pub labelled : Tree → Tree → Tree
 labelled f t = fork (stem t) (fork (stem f) (fork leaf (stem leaf)))
-
--- the answer, and every table word as Label leaves it: "Label has no stack"
-pub record Outcome : Type 0 where
-  pub answer : Made
-  pub table : List ℕ
-
-abbrev pub whole : Made → List ℕ → Outcome
-whole a w = record { answer = a; table = w }
 
 -- "New nodes in order: leaf; its stem; fork of these; stem of f; fork of it and the third; stem of t; fork of it and the fifth."
 unfoldable pub nodes : Table → ℕ → ℕ → Placed
@@ -34,14 +26,11 @@ nodes table f t =
     let n6 = make (n5 .table) (t + 1) 0 in
     make (n6 .table) (n6 .node + 1) (n5 .node + 1)
 
-unfoldable pub placed : Placed → Outcome
-placed p = whole (Node (p .node) (p .table .used)) (p .table .words)
-
 -- Label the rule at node f with the tree of node t, in the table w with u nodes in use: "1, 2, then 3 for either number. 8: fewer than seven free
--- nodes." 8 is met before a node is made, so no word changes.
-unfoldable pub label : List ℕ → ℕ → ℕ → ℕ → Outcome
+-- nodes." 8 is met before a node is made, so no word changes. "Label has no stack."
+unfoldable pub label : List ℕ → ℕ → ℕ → ℕ → Outcome Made
 label w u f t =
-    unless (atEntry true w u []) (λ e. whole (Refused e) w)
+    unless (atEntry true w u []) (λ e. whole (Refused e) w [])
     (cond (ltb f u && ltb t u)
-    (cond (ltb (capacity w - u) 7) (whole (Refused Nodes) w) (placed (nodes (record { words = w; used = u }) f t)))
-    (whole (Refused refusal.Node) w))
+    (cond (ltb (capacity w - u) 7) (whole (Refused Nodes) w []) (placed (nodes (record { words = w; used = u }) f t) []))
+    (whole (Refused refusal.Node) w []))

@@ -2,14 +2,15 @@
 ghost use mathlib.Core.Path.{_≡_};
 ghost use Prim.Native.Nat.{_+_, _≤_, _<_};
 ghost use lib.ListN.{length};
+ghost use mathlib.Core.List.{[]};
 ghost use Rattle.table.specs.Nodes.{capacity};
-ghost use Rattle.table.specs.Code.{placedBy};
-ghost use Rattle.label.specs.Label.{whole};
+ghost use Rattle.table.specs.Outcome.{whole};
+ghost use Rattle.nodes.specs.Code.{placedBy};
 ghost use Rattle.label.specs.Label as labelling;
 ghost use Rattle.label.specs.Code.{constantNodes, labelNodes};
-use table::Checked;
+use checks::Checked;
 use table::Made;
-use table::NewNode;
+use nodes::NewNode;
 use table::Refusal;
 
 // The nodes of KK: a leaf, its stem, and the fork of these.
@@ -17,9 +18,9 @@ fn make_constant(table: &mut [u32], used: usize) -> NewNode
     requires { ⌜ (used + 3 ≤ capacity (now table)) × (length (now table) ≤ 131072) ⌝ }
     ensures { λ r. ⌜ placedBy r (now (table .exit)) ≡ constantNodes (record { words = now (table .entry); used = used }) ⌝ }
 {
-    let n1 = table::new_node(table, used, 0, 0);
-    let n2 = table::new_node(table, n1.used, n1.node + 1, 0);
-    table::new_node(table, n2.used, n1.node + 1, n2.node + 1)
+    let n1 = nodes::new_node(table, used, 0, 0);
+    let n2 = nodes::new_node(table, n1.used, n1.node + 1, 0);
+    nodes::new_node(table, n2.used, n1.node + 1, n2.node + 1)
 }
 
 // The nodes of the labelled tree around KK at node k: the stem of the rule, its fork with KK, the stem of the label, its fork with that.
@@ -27,18 +28,18 @@ fn make_label(table: &mut [u32], used: usize, k: usize, rule: usize, label: usiz
     requires { ⌜ (used + 4 ≤ capacity (now table)) × (length (now table) ≤ 131072) × (k < used) × (rule < used) × (label < used) ⌝ }
     ensures { λ r. ⌜ placedBy r (now (table .exit)) ≡ labelNodes (record { words = now (table .entry); used = used }) k rule label ⌝ }
 {
-    let n4 = table::new_node(table, used, rule + 1, 0);
-    let n5 = table::new_node(table, n4.used, n4.node + 1, k + 1);
-    let n6 = table::new_node(table, n5.used, label + 1, 0);
-    table::new_node(table, n6.used, n6.node + 1, n5.node + 1)
+    let n4 = nodes::new_node(table, used, rule + 1, 0);
+    let n5 = nodes::new_node(table, n4.used, n4.node + 1, k + 1);
+    let n6 = nodes::new_node(table, n5.used, label + 1, 0);
+    nodes::new_node(table, n6.used, n6.node + 1, n5.node + 1)
 }
 
 // Labels the rule at a node with the tree of another node.
 pub fn label(table: &mut [u32], used: usize, rule: usize, label: usize) -> Made
-    ensures { λ r. ⌜ whole r (now (table .exit)) ≡ labelling.label (now (table .entry)) used rule label ⌝ }
+    ensures { λ r. ⌜ whole r (now (table .exit)) [] ≡ labelling.label (now (table .entry)) used rule label ⌝ }
 {
     let none: [u32; 0] = [];
-    let checked = table::check(true, table, used, &none);
+    let checked = checks::check(true, table, used, &none);
     if let Checked::Refused(e) = checked {
         return Made::Refused(e);
     }

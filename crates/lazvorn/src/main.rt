@@ -27,7 +27,7 @@ fn answer(packet: &[u8]) {
             used,
             digits,
         } => print(0, steps as u64, used as u64, &out[..digits]),
-        Ran::Refused(refusal) => print(table::number(refusal) as u64, 0, 0, b"-"),
+        Ran::Refused(refusal) => print(checks::number(refusal) as u64, 0, 0, b"-"),
     }
 }
 

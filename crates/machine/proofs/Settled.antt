@@ -9,9 +9,9 @@ use lib.Dec.{leb}
 use borrow.Author.Tests.{lt-ltb, le-ltb, leb-true}
 use Rattle.table.specs.Nodes.{cleared}
 use Rattle.table.specs.Outcome.{Outcome, whole, frames, zeros, atEntry, stopped}
-use Rattle.table.specs.Code.{refusalOf}
-use Rattle.table.specs.declared.Checked.{Checked}
-use Rattle.table.specs.declared.Checked.the-variants as check
+use Rattle.checks.specs.Code.{refusalOf}
+use Rattle.checks.specs.declared.Checked.{Checked}
+use Rattle.checks.specs.declared.Checked.the-variants as check
 use Rattle.table.specs.declared.Refusal.{Refusal}
 use Rattle.table.specs.declared.Refusal.the-variants.{Steps, Nodes, Frames}
 use Rattle.table.specs.declared.Refusal.the-variants as refusal
@@ -23,7 +23,7 @@ use Rattle.machine.specs.declared.End.{End}
 use Rattle.machine.specs.declared.End.the-variants as ended
 use Rattle.machine.specs.declared.Turned.{Turned}
 use Rattle.applying.specs.Machine.{Turn, more, done, stop, uses}
-use Rattle.applying.specs.Apply.{settle, begin, apply}
+use Rattle.applying.specs.Apply.{settle, begin, applyNodes, apply}
 use Rattle.machine.specs.Code.{endOf, turnOf}
 use Rattle.applying.proofs.States.{Later, uses-later}
 use Rattle.applying.proofs.Cases.{good-begin}
@@ -64,10 +64,10 @@ same-zeros u z s l (stop e t) = rw l
 -- Apply by the code's check
 pub refuse-entry : (w : List ℕ) (u : ℕ) (s : List ℕ) (f n limit : ℕ) {x : Checked} {e : Refusal}
     → refusalOf x ≡ atEntry (leb limit 1000000) w u s → x ≡ check.Refused e → whole (Refused e) w s ≡ apply w u s f n limit
-unfolding apply
+unfolding apply applyNodes
 refuse-entry w u s f n limit p q = rw (← p, q)
 
-pub passed-by : {own : Bool} {w : List ℕ} {u : ℕ} {s : List ℕ} {x : Checked} → refusalOf x ≡ atEntry own w u s → x ≡ check.Sound → Entered own w u s
+pub passed-by : {own : Bool} {w : List ℕ} {u : ℕ} {s : List ℕ} {x : Checked} → refusalOf x ≡ atEntry own w u s → x ≡ check.Passed → Entered own w u s
 passed-by {own} {w} {u} {s} p q = entered own w u s (rw (← p, q))
 
 module _ {w : List ℕ} {u : ℕ} {s : List ℕ} (f n limit : ℕ) (i : Entered (leb limit 1000000) w u s) where
@@ -75,12 +75,12 @@ module _ {w : List ℕ} {u : ℕ} {s : List ℕ} (f n limit : ℕ) (i : Entered 
   within-limit = leb-true limit 1000000 (i .owned)
 
   pub refuse-function : u ≤ f → whole (Refused refusal.Node) w s ≡ apply w u s f n limit
-  unfolding apply
+  unfolding apply applyNodes
   refuse-function h = rw (enters i, le-ltb f u h)
 
   module _ (function-in : f < u) where
     pub refuse-argument : u ≤ n → whole (Refused refusal.Node) w s ≡ apply w u s f n limit
-    unfolding apply
+    unfolding apply applyNodes
     refuse-argument h = rw (enters i, lt-ltb f u function-in, le-ltb n u h)
 
     -- Apply by its uses: y and z are the words of table and stack after them
@@ -96,7 +96,7 @@ module _ {w : List ℕ} {u : ℕ} {s : List ℕ} (f n limit : ℕ) (i : Entered 
           go ended.Frames l = (l .extends .kept .up, omega (arith, l .fine .within))
 
       pub settled : (o : Outcome Applied) → length z ≡ length s → o ≡ settle u z (turnOf t y z) → o ≡ apply w u s f n limit
-      unfolding apply
+      unfolding apply applyNodes
       settled o l r =
           rw (enters i, lt-ltb f u function-in, lt-ltb n u argument-in)
           (r ∙ rw used (same-zeros u z s l (uses (frames s) limit (begin w u f n))))

@@ -7,8 +7,8 @@ use lib.ListN.{length}
 use borrow.Author.Tests.{lt-ltb, le-ltb}
 use Rattle.table.specs.Nodes.{capacity, first, make}
 use Rattle.table.specs.Outcome.{frames}
-use Rattle.table.specs.Code.{placedBy}
-use Rattle.table.specs.declared.NewNode.{NewNode}
+use Rattle.nodes.specs.Code.{placedBy}
+use Rattle.nodes.specs.declared.NewNode.{NewNode}
 use Rattle.table.specs.declared.Refusal.the-variants.{Nodes, Frames}
 use Rattle.table.proofs.Words.{sound-node}
 use Rattle.applying.specs.declared.Rule.{Rule}

@@ -3,7 +3,7 @@
 use applying::Applied;
 use applying::Frame;
 use applying::Rule;
-use table::Checked;
+use checks::Checked;
 use table::Refusal;
 ghost use mathlib.Core.Path.{_≡_};
 ghost use mathlib.Core.List.{List};
@@ -45,11 +45,11 @@ fn fork_rule(table: &[u32], x: usize, y: usize) -> Rule
     requires { ⌜ x * 2 + 1 < length (now table) ⌝ }
     ensures { λ r. ⌜ r ≡ forkRule (now (table .entry)) x y ⌝ }
 {
-    let a = table::word(table, x * 2);
+    let a = nodes::word(table, x * 2);
     if a == 0 {
         return Rule::Drop(y);
     }
-    let b = table::word(table, x * 2 + 1);
+    let b = nodes::word(table, x * 2 + 1);
     if b == 0 {
         return Rule::Spread(a - 1, y);
     }
@@ -61,11 +61,11 @@ fn wanted(table: &[u32], function: usize) -> Rule
     requires { ⌜ (function * 2 + 1 < length (now table)) × ((first (now table) function - 1) * 2 + 1 < length (now table)) ⌝ }
     ensures { λ r. ⌜ r ≡ rule (now (table .entry)) function ⌝ }
 {
-    let a = table::word(table, function * 2);
+    let a = nodes::word(table, function * 2);
     if a == 0 {
         return Rule::Leaf;
     }
-    let b = table::word(table, function * 2 + 1);
+    let b = nodes::word(table, function * 2 + 1);
     if b == 0 {
         return Rule::Stem(a - 1);
     }
@@ -99,10 +99,10 @@ fn top(stack: &[u32], at: usize) -> Frame
     requires { ⌜ at * 3 + 2 < length (now stack) ⌝ }
     ensures { λ r. ⌜ r ≡ frameAt (now (stack .entry)) at ⌝ }
 {
-    let tag = table::word(stack, at * 3);
-    let a = table::word(stack, at * 3 + 1);
+    let tag = nodes::word(stack, at * 3);
+    let a = nodes::word(stack, at * 3 + 1);
     if tag == 0 {
-        let b = table::word(stack, at * 3 + 2);
+        let b = nodes::word(stack, at * 3 + 2);
         return Frame::SpreadFirst(a, b);
     }
     if tag == 1 {
@@ -168,7 +168,7 @@ fn grow(table: &mut [u32], stack: &mut [u32], state: Machine, a: usize, b: usize
             end: End::Nodes,
         };
     }
-    let made = table::new_node(table, used, a, b);
+    let made = nodes::new_node(table, used, a, b);
     resume(stack, made.used, state.held, state.steps + 1, made.node)
 }
 
@@ -231,7 +231,7 @@ fn undo(table: &mut [u32], used: usize, used_now: usize, refusal: Refusal) -> Ap
     requires { ⌜ (used ≤ «used_now») × («used_now» * 2 ≤ length (now table)) ⌝ }
     ensures { λ r. ⌜ (r ≡ Applied.Refused refusal) × (now (table .exit) ≡ cleared (now (table .entry)) (used * 2) («used_now» * 2)) ⌝ }
 {
-    table::clear(table, used * 2, used_now * 2);
+    nodes::clear(table, used * 2, used_now * 2);
     Applied::Refused(refusal)
 }
 
@@ -241,7 +241,7 @@ fn settle(table: &mut [u32], stack: &mut [u32], used: usize, turned: Turned) -> 
     ensures { λ r. ⌜ whole r (now (table .exit)) (now (stack .exit)) ≡ settle used (now (stack .entry)) (turnOf turned (now (table .entry)) (now (stack .entry))) ⌝ }
 {
     let len = stack.len();
-    table::clear(stack, 0, len);
+    nodes::clear(stack, 0, len);
     let end = turned.end;
     let state = turned.state;
     match end {
@@ -267,7 +267,7 @@ pub fn apply(
 ) -> Applied
     ensures { λ r. ⌜ whole r (now (table .exit)) (now (stack .exit)) ≡ apply (now (table .entry)) used (now (stack .entry)) function argument limit ⌝ }
 {
-    let checked = table::check(limit <= 1000000, table, used, stack);
+    let checked = checks::check(limit <= 1000000, table, used, stack);
     if let Checked::Refused(refusal) = checked {
         return Applied::Refused(refusal);
     }

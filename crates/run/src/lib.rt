@@ -64,8 +64,8 @@ fn stop(table: &mut [u32], used: usize, stack: &mut [u32], refusal: Refusal) -> 
     ensures { λ r. ⌜ ((o : List ℕ) → whole r (now (table .exit)) (now (stack .exit)) o ≡ stopped refusal (now (table .entry)) used (now (stack .entry)) o) ⌝ }
 {
     let len = stack.len();
-    table::clear(table, 0, used * 2);
-    table::clear(stack, 0, len);
+    nodes::clear(table, 0, used * 2);
+    nodes::clear(stack, 0, len);
     Ran::Refused(refusal)
 }
 

@@ -17,7 +17,7 @@ use Rattle.table.proofs.Trees.{Extends}
 use Rattle.table.proofs.Entry.{Entered, enters, stopped-undone}
 use Rattle.applying.specs.declared.Applied.the-variants.{Refused}
 use Rattle.applying.specs.Machine.{State, Turn, more, done, stop, uses}
-use Rattle.applying.specs.Apply.{settle, begin, apply}
+use Rattle.applying.specs.Apply.{settle, begin, applyNodes, apply}
 use Rattle.applying.proofs.States.{Later, uses-later, Counted, uses-steps}
 use Rattle.applying.proofs.Cases.{Says, says-by, good-begin}
 use Rattle.applying.proofs.Stops.{stop-lacks, LacksWithin, apply-stops}
@@ -92,7 +92,7 @@ pub record Halted (w : List ℕ) (u : ℕ) (s : List ℕ) (f n limit : ℕ) (e :
 
 module _ (w : List ℕ) (u : ℕ) (s : List ℕ) (f n limit : ℕ) where
   settles : Entered (leb limit 1000000) w u s → f < u → n < u → apply w u s f n limit ≡ settle u s (uses (frames s) limit (begin w u f n))
-  unfolding apply
+  unfolding apply applyNodes
   settles i h l = rw (enters i, lt-ltb f u h, lt-ltb n u l)
 
   -- Apply is refused after its checks only at a use that lacks something, and then "the words of the nodes made in the call and the whole stack" are 0.

@@ -9,7 +9,7 @@ use Rattle.calculus.specs.Tree.{Tree}
 use Rattle.calculus.specs.Term.{Term}
 use Rattle.calculus.specs.Bytes as bytes
 use Rattle.table.specs.Nodes.{cleared}
-use Rattle.table.specs.Outcome.{Outcome, zeros}
+use Rattle.table.specs.Outcome.{Outcome, wholeOut, zeros}
 use Rattle.table.specs.Refusal.{Numbers, refusedNumbers}
 use Rattle.table.specs.declared.Refusal.{Refusal}
 use Rattle.table.specs.declared.Refusal.the-variants as refusal
@@ -27,59 +27,49 @@ use Rattle.fields.specs.Packet.{Packet, packet}
 use Rattle.running.specs.declared.Ran.{Ran}
 use Rattle.running.specs.declared.Ran.the-variants.{Text, Refused}
 
--- the answer, every lent word and every out byte as Run leaves it
-pub record Whole : Type 0 where
-  pub answer : Ran
-  pub table : List ℕ
-  pub stack : List ℕ
-  pub out : List ℕ
-
-abbrev pub whole : Ran → List ℕ → List ℕ → List ℕ → Whole
-whole a w s o = record { answer = a; table = w; stack = s; out = o }
-
 -- the numbers of Run's answer: "On refusal used is 0."
 unfoldable pub ranNumbers : Ran → Numbers
 ranNumbers (Text k u n) = record { refusal = 0; node = 0; used = u; steps = k; digits = n }
 ranNumbers (Refused e) = refusedNumbers 0 e
 
 -- A stage was refused with u nodes in use before it: every node made since Run's entry is cleared, and the stack; the out bytes stay.
-unfoldable pub stopped : Refusal → List ℕ → ℕ → List ℕ → List ℕ → Whole
-stopped e w u s o = whole (Refused e) (cleared w 0 (u * 2)) (zeros s) o
+unfoldable pub stopped : Refusal → List ℕ → ℕ → List ℕ → List ℕ → Outcome Ran
+stopped e w u s o = wholeOut (Refused e) (cleared w 0 (u * 2)) (zeros s) o
 
 -- What follows a stage: the refusal of an inner operation stops Run; else its node and its count of used nodes go on. u nodes were in use
 -- before the stage, o are the out bytes.
-unfoldable pub afterMade : ℕ → List ℕ → Outcome Made → (List ℕ → ℕ → List ℕ → ℕ → Whole) → Made → Whole
+unfoldable pub afterMade : ℕ → List ℕ → Outcome Made → (List ℕ → ℕ → List ℕ → ℕ → Outcome Ran) → Made → Outcome Ran
 afterMade u o r next (made.Node v u′) = next (r .table) u′ (r .stack) v
 afterMade u o r next (made.Refused e) = stopped e (r .table) u (r .stack) o
 
-unfoldable pub afterApplied : ℕ → List ℕ → Outcome Applied → (List ℕ → ℕ → List ℕ → ℕ → ℕ → Whole) → Applied → Whole
+unfoldable pub afterApplied : ℕ → List ℕ → Outcome Applied → (List ℕ → ℕ → List ℕ → ℕ → ℕ → Outcome Ran) → Applied → Outcome Ran
 afterApplied u o r next (applied.Node v u′ k) = next (r .table) u′ (r .stack) v k
 afterApplied u o r next (applied.Refused e) = stopped e (r .table) u (r .stack) o
 
-unfoldable pub afterWritten : ℕ → ℕ → write.Outcome → Written → Whole
-afterWritten k u r (written.Digits n) = whole (Text k u n) (r .table) (r .stack) (r .out)
+unfoldable pub afterWritten : ℕ → ℕ → Outcome Written → Written → Outcome Ran
+afterWritten k u r (written.Digits n) = wholeOut (Text k u n) (r .table) (r .stack) (r .out)
 afterWritten k u r (written.Refused e) = stopped e (r .table) u (r .stack) (r .out)
 
 -- Write node v, the outcome after k steps.
-unfoldable pub writes : List ℕ → ℕ → List ℕ → List ℕ → ℕ → ℕ → Whole
+unfoldable pub writes : List ℕ → ℕ → List ℕ → List ℕ → ℕ → ℕ → Outcome Ran
 writes w u s o v k = let r = write.write w u s v o in afterWritten k u r (r .answer)
 
 -- Apply node v to the argument nodes in order under one step limit, of which k steps are taken; then write.
-unfoldable pub applies : List ℕ → ℕ → List ℕ → ℕ → List ℕ → List ℕ → ℕ → ℕ → Whole
+unfoldable pub applies : List ℕ → ℕ → List ℕ → ℕ → List ℕ → List ℕ → ℕ → ℕ → Outcome Ran
 applies [] limit w u s o v k = writes w u s o v k
 applies (n ∷ ns) limit w u s o v k =
     let r = apply w u s v n (limit - k) in
     afterApplied u o r (λ w′ u′ s′ v′ j. applies ns limit w′ u′ s′ o v′ (k + j)) (r .answer)
 
 -- Read each argument's text in order, and go on with the nodes.
-unfoldable pub reads : List (List ℕ) → List ℕ → ℕ → List ℕ → List ℕ → (List ℕ → List ℕ → ℕ → List ℕ → Whole) → Whole
+unfoldable pub reads : List (List ℕ) → List ℕ → ℕ → List ℕ → List ℕ → (List ℕ → List ℕ → ℕ → List ℕ → Outcome Ran) → Outcome Ran
 reads [] w u s o next = next [] w u s
 reads (l ∷ ls) w u s o next =
     let r = read w u s l in
     afterMade u o r (λ w′ u′ s′ n. reads ls w′ u′ s′ o (λ ns. next (n ∷ ns))) (r .answer)
 
 -- "Then Translate, Read of each argument, Apply in order under one step limit, Write, each with its 7 to 10."
-unfoldable pub stages : List ℕ → List ℕ → List ℕ → Packet → Whole
+unfoldable pub stages : List ℕ → List ℕ → List ℕ → Packet → Outcome Ran
 stages w s o p =
     let r = translate w 0 s (p .rule) in
     afterMade 0 o r (λ w′ u′ s′ v. reads (p .arguments) w′ u′ s′ o (λ ns w″ u″ s″. applies ns (p .limit) w″ u″ s″ o v 0)) (r .answer)
@@ -91,18 +81,18 @@ allReadable [] = true
 allReadable (l ∷ ls) = isSome (readable l) && allReadable ls
 
 -- "6: packet broken. 5: its rule. 4: its arguments' texts, first to last."
-unfoldable pub runPacket : List ℕ → List ℕ → List ℕ → Option Packet → Whole
+unfoldable pub runPacket : List ℕ → List ℕ → List ℕ → Option Packet → Outcome Ran
 unfolding isSome
-runPacket w s o none = whole (Refused refusal.Packet) w s o
+runPacket w s o none = wholeOut (Refused refusal.Packet) w s o
 runPacket w s o (some p) =
     cond (isSome (bytes.rule (p .rule)))
-    (cond (allReadable (p .arguments)) (stages w s o p) (whole (Refused refusal.Text) w s o))
-    (whole (Refused refusal.Rule) w s o)
+    (cond (allReadable (p .arguments)) (stages w s o p) (wholeOut (Refused refusal.Text) w s o))
+    (wholeOut (Refused refusal.Rule) w s o)
 
 -- "1: lengths only."
 unfoldable pub lengthsFit : List ℕ → List ℕ → List ℕ → Bool
 lengthsFit w s o = leb (length w) 131072 && (leb (length s) 65536 && leb (length o) 65535)
 
 -- "Run a packet with the table taken as empty": the packet l, with the table w, the stack s and the out bytes o.
-unfoldable pub run : List ℕ → List ℕ → List ℕ → List ℕ → Whole
-run w s o l = cond (lengthsFit w s o) (runPacket w s o (packet l)) (whole (Refused refusal.Limits) w s o)
+unfoldable pub run : List ℕ → List ℕ → List ℕ → List ℕ → Outcome Ran
+run w s o l = cond (lengthsFit w s o) (runPacket w s o (packet l)) (wholeOut (Refused refusal.Limits) w s o)

@@ -9,25 +9,20 @@ use lib.ListN.{length, getD}
 use lib.Dec.{leb}
 use borrow.Author.Tests.{leb-true, le-leb}
 use Rattle.table.specs.Nodes.{Table, capacity, sound, Sound, cleared}
-use Rattle.table.specs.Outcome.{Outcome, fits, atEntry, stopped, zeros}
+pub use Rattle.table.specs.Outcome.{Entered}
+use Rattle.table.specs.Outcome.{Outcome, fits, atEntry, unless, stopped, zeros}
 use Rattle.table.specs.declared.Refusal.{Refusal}
 use Rattle.table.specs.declared.Refusal.the-variants.{Limits, Broken}
 use Rattle.table.proofs.Words.{and-left, and-right, cleared-below, cleared-inside, cleared-beyond, length-cleared}
 use Rattle.table.proofs.Trees.{Kept, Extends}
 
--- What holds of table, count and stack where neither 1 nor 2 is met.
-pub record Entered (own : Bool) (w : List ℕ) (u : ℕ) (s : List ℕ) : Type 0 where
-  pub table : Sound (record { words = w; used = u })
-  pub stack : length s ≤ 65536
-  pub owned : own ≡ true
-
-pub entered : (own : Bool) (w : List ℕ) (u : ℕ) (s : List ℕ) → atEntry own w u s ≡ none → Entered own w u s
+pub entered : (within : Bool) (w : List ℕ) (u : ℕ) (s : List ℕ) → atEntry within w u s ≡ none → Entered within w u s
 unfolding atEntry fits
-entered own w u s = go (own && fits w u s) (sound w u) refl refl
+entered within w u s = go (within && fits w u s) (sound w u) refl refl
   where
-    go : (a b : Bool) → (own && fits w u s) ≡ a → sound w u ≡ b → cond a (cond b none (some Broken)) (some Limits) ≡ none → Entered own w u s
+    go : (a b : Bool) → (within && fits w u s) ≡ a → sound w u ≡ b → cond a (cond b none (some Broken)) (some Limits) ≡ none → Entered within w u s
     go true true p q e =
-        let f = and-right own (fits w u s) p in
+        let f = and-right within (fits w u s) p in
         let g = and-right (leb (length w) 131072) _ f in
         record {
           table = record {
@@ -36,15 +31,23 @@ entered own w u s = go (own && fits w u s) (sound w u) refl refl
             unbroken = q;
           };
           stack = leb-true (length s) 65536 (and-left (leb (length s) 65536) _ g);
-          owned = and-left own (fits w u s) p;
+          limits-kept = and-left within (fits w u s) p;
         }
     go true false p q e = let n : _≡_ {A = ℕ} 0 1 = cc in absurd (omega arith)
     go false b p q e = let n : _≡_ {A = ℕ} 0 1 = cc in absurd (omega arith)
 
-pub enters : {own : Bool} {w : List ℕ} {u : ℕ} {s : List ℕ} → Entered own w u s → atEntry own w u s ≡ none
+pub enters : {within : Bool} {w : List ℕ} {u : ℕ} {s : List ℕ} → Entered within w u s → atEntry within w u s ≡ none
 unfolding atEntry fits
-enters {own} {w} {u} {s} e =
-    rw (e .owned, le-leb (length w) 131072 (e .table .short), le-leb (length s) 65536 (e .stack), le-leb u (capacity w) (e .table .within), e .table .unbroken)
+enters {within} {w} {u} {s} e =
+    rw (e .limits-kept, le-leb (length w) 131072 (e .table .short), le-leb (length s) 65536 (e .stack), le-leb u (capacity w) (e .table .within), e .table .unbroken)
+
+-- What a check refuses, at entry or later, is the outcome of all that stands behind it; what it lets pass goes on.
+module _ {A : Type 0} {c : Option Refusal} (refuse : Refusal → A) (next : A) where
+  pub check-refuses : {e : Refusal} → some e ≡ c → refuse e ≡ unless c refuse next
+  check-refuses q = rw (← q)
+
+  pub check-passes : none ≡ c → next ≡ unless c refuse next
+  check-passes q = rw (← q)
 
 -- The words of the nodes made since the table was t are cleared, and `used` is as it was: all nodes of t are as they were.
 pub stopped-kept : {t z : Table} → Kept t z → z .used ≤ capacity (z .words) → Kept t (record { words = cleared (z .words) (t .used * 2) (z .used * 2); used = t .used })
@@ -56,13 +59,13 @@ stopped-kept {t} {z} k h =
     }
 
 -- 1 comes before 2, and each on its condition
-pub entry-limits : (own : Bool) (w : List ℕ) (u : ℕ) (s : List ℕ) → (own && fits w u s) ≡ false → atEntry own w u s ≡ some Limits
+pub entry-limits : (within : Bool) (w : List ℕ) (u : ℕ) (s : List ℕ) → (within && fits w u s) ≡ false → atEntry within w u s ≡ some Limits
 unfolding atEntry
-entry-limits own w u s e = rw e
+entry-limits within w u s e = rw e
 
-pub entry-broken : (own : Bool) (w : List ℕ) (u : ℕ) (s : List ℕ) → (own && fits w u s) ≡ true → sound w u ≡ false → atEntry own w u s ≡ some Broken
+pub entry-broken : (within : Bool) (w : List ℕ) (u : ℕ) (s : List ℕ) → (within && fits w u s) ≡ true → sound w u ≡ false → atEntry within w u s ≡ some Broken
 unfolding atEntry
-entry-broken own w u s e h = rw (e, h)
+entry-broken within w u s e h = rw (e, h)
 
 -- "Numbers 7 to 10 set to 0 the words of the nodes made in the call and the whole stack": of a table that was t and stopped as z, every other word
 -- is as found.

@@ -2,7 +2,6 @@
 pub mod Words
 pub mod Trees
 pub mod Making
-pub mod Scan
 pub mod Entry
 pub mod Laid
 pub mod Vectors

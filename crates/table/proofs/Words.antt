@@ -11,6 +11,10 @@ use lib.Dec.{ltb, leb, eqb}
 use borrow.Author.Tests.{ltb-false, eqb-true, eqb-false, le-ltb, eq-eqb, ne-eqb, not-true}
 use Rattle.table.specs.Nodes.{first, second, broken, sound, cleared}
 
+-- What follows where `cc` finds two constructors said to be equal: it proves 0 ≡ 1 from them.
+pub zero-one : {A : Type 0} → _≡_ {A = ℕ} 0 1 → A
+zero-one e = absurd (omega arith)
+
 -- a conjunction that holds, and a disjunction that does not
 pub and-left : (a b : Bool) → (a && b) ≡ true → a ≡ true
 and-left true b e = refl

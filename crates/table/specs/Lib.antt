@@ -2,4 +2,3 @@
 pub mod Refusal
 pub mod Nodes
 pub mod Outcome
-pub mod Code

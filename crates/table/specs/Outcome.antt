@@ -1,26 +1,32 @@
--- The whole outcome of an operation on a table and a stack, and the checks and memory effects that the operations share (Operations).
+-- The whole outcome of an operation on lent memory, and the checks and memory effects that the operations share (Operations).
 -- Assumes nothing: these are definitions.
-use Prim.Native.Nat.{ℕ, _+_, _*_, _/_}
+use Prim.Native.Nat.{ℕ, _-_, _*_, _/_, _≤_}
+use mathlib.Core.Path.{_≡_}
 use mathlib.Core.Bool.{Bool, true, false, cond, _&&_}
 use mathlib.Core.List.{List, [], _∷_}
 use mathlib.Core.Option.{Option, none, some}
 use lib.ListN.{length, replicate}
-use lib.Dec.{leb}
+use lib.Dec.{leb, ltb}
 use Rattle.calculus.specs.Tree.{Tree}
-use Rattle.table.specs.Nodes.{Table, Placed, capacity, sound, lay, cleared}
+use Rattle.table.specs.Nodes.{Table, Placed, capacity, sound, Sound, lay, cleared}
 use Rattle.table.specs.declared.Refusal.{Refusal}
-use Rattle.table.specs.declared.Refusal.the-variants.{Limits, Broken}
+use Rattle.table.specs.declared.Refusal.the-variants.{Limits, Broken, Nodes, Frames}
 use Rattle.table.specs.declared.Made.{Made}
 use Rattle.table.specs.declared.Made.the-variants
 
--- the answer, and every lent word as the operation leaves it
+-- the answer, and every lent word and byte as the operation leaves it; what an operation is not lent is empty
 pub record Outcome (A : Type 0) : Type 0 where
   pub answer : A
   pub table : List ℕ
   pub stack : List ℕ
+  pub out : List ℕ
 
+abbrev pub wholeOut : {A : Type 0} → A → List ℕ → List ℕ → List ℕ → Outcome A
+wholeOut a w s o = record { answer = a; table = w; stack = s; out = o }
+
+-- of an operation that is lent no out bytes
 abbrev pub whole : {A : Type 0} → A → List ℕ → List ℕ → Outcome A
-whole a w s = record { answer = a; table = w; stack = s }
+whole a w s = wholeOut a w s []
 
 -- "The stack is a lent run of at most 65,536 32-bit words, three a frame, rounded down." (Trees and their table)
 abbrev pub frames : List ℕ → ℕ
@@ -34,9 +40,15 @@ zeros s = replicate (length s) 0
 unfoldable pub fits : List ℕ → ℕ → List ℕ → Bool
 fits w u s = leb (length w) 131072 && (leb (length s) 65536 && leb u (capacity w))
 
--- Refusal 1, then 2. `own` is what the operation's own part of 1 asks.
+-- Refusal 1, then 2. `within` says whether the operation's own limits are kept, which are a part of 1.
 unfoldable pub atEntry : Bool → List ℕ → ℕ → List ℕ → Option Refusal
-atEntry own w u s = cond (own && fits w u s) (cond (sound w u) none (some Broken)) (some Limits)
+atEntry within w u s = cond (within && fits w u s) (cond (sound w u) none (some Broken)) (some Limits)
+
+-- what holds of table, count and stack where neither 1 nor 2 is met
+pub record Entered (within : Bool) (w : List ℕ) (u : ℕ) (s : List ℕ) : Type 0 where
+  pub table : Sound (record { words = w; used = u })
+  pub stack : length s ≤ 65536
+  pub limits-kept : within ≡ true
 
 -- refused with e where a check says so, else what follows
 abbrev pub unless : {A : Type 0} → Option Refusal → (Refusal → A) → A → A
@@ -55,3 +67,11 @@ placed p s = whole (the-variants.Node (p .node) (p .table .used)) (p .table .wor
 -- a tree laid out in new nodes, as Read and Translate do
 unfoldable pub laid : List ℕ → ℕ → List ℕ → Tree → Outcome Made
 laid w u s t = placed (lay (record { words = w; used = u }) t) s
+
+-- what a tree of so many nodes that takes so many frames lacks: 8 before 9
+unfoldable pub lacking : List ℕ → ℕ → List ℕ → ℕ → ℕ → Option Refusal
+lacking w u s nodes held = cond (ltb (capacity w - u) nodes) (some Nodes) (cond (ltb (frames s) held) (some Frames) none)
+
+-- "Read, Translate and Label meet 8 and 9 before they make a node.": 8, then 9, then the tree laid out
+unfoldable pub laidWithin : List ℕ → ℕ → List ℕ → ℕ → ℕ → Tree → Outcome Made
+laidWithin w u s nodes held t = unless (lacking w u s nodes held) (λ e. stopped (the-variants.Refused e) (record { words = w; used = u }) u s) (laid w u s t)

@@ -10,8 +10,8 @@ use lib.Seq.{ext-getD}
 use Rattle.calculus.specs.Tree.{Tree, leaf, stem, fork, size}
 use Rattle.calculus.specs.Abstraction.{term}
 use Rattle.table.specs.Nodes.{Table, Placed, make, lay}
-use Rattle.table.specs.Code.{placedBy}
-use Rattle.table.specs.declared.NewNode.{NewNode}
+use Rattle.nodes.specs.Code.{placedBy}
+use Rattle.nodes.specs.declared.NewNode.{NewNode}
 use Rattle.table.proofs.Words.{wrote, wrote-other, wrote-first, wrote-second, length-wrote}
 use Rattle.table.proofs.Making.{lay-used, lay-node, size-pos}
 use Rattle.term.specs.Words.{words, Holds, Outside}

@@ -16,14 +16,15 @@ use Rattle.calculus.proofs.Rule.{rule-exact}
 use Rattle.calculus.proofs.Size.{rule-tree, rule-size}
 use Rattle.table.specs.Nodes.{Placed, Sound, capacity, cleared, lay}
 use Rattle.table.specs.Outcome.{Outcome, whole, zeros, frames, atEntry, stopped, placed, laid}
-use Rattle.table.specs.Code.{refusalOf, placedBy}
+use Rattle.checks.specs.Code.{refusalOf}
+use Rattle.nodes.specs.Code.{placedBy}
 use Rattle.table.specs.declared.Refusal.{Refusal}
 use Rattle.table.specs.declared.Refusal.the-variants.{Rule, Nodes, Frames}
 use Rattle.table.specs.declared.Made.{Made}
 use Rattle.table.specs.declared.Made.the-variants.{Node, Refused}
-use Rattle.table.specs.declared.Checked.{Checked}
-use Rattle.table.specs.declared.Checked.the-variants as checked
-use Rattle.table.specs.declared.NewNode.{NewNode}
+use Rattle.checks.specs.declared.Checked.{Checked}
+use Rattle.checks.specs.declared.Checked.the-variants as checked
+use Rattle.nodes.specs.declared.NewNode.{NewNode}
 use Rattle.table.proofs.Words.{cleared-none, cleared-all}
 use Rattle.table.proofs.Making.{size-pos}
 use Rattle.table.proofs.Entry.{entered}
@@ -40,7 +41,7 @@ module _ (w : List ℕ) (u : ℕ) (s b : List ℕ) (x : Checked) (e : refusalOf 
   unfolding translate
   refused-entry r q = rw (← e, q)
 
-  module _ (q : x ≡ checked.Sound) where
+  module _ (q : x ≡ checked.Passed) where
     pub enters : Sound (record { words = w; used = u }) × (length s ≤ 65536)
     enters = let f = entered true w u s (rw (← e, q)) in (f .table, f .stack)
 

@@ -16,13 +16,13 @@ ghost use Rattle.calculus.specs.Bytes.{bytes, parse, rule};
 ghost use Rattle.calculus.specs.Abstraction.{Combination, bracket, term, ruleTree};
 ghost use Rattle.table.specs.Nodes.{Sound, lay};
 ghost use Rattle.table.specs.Outcome.{whole, laid};
-ghost use Rattle.table.specs.Code.{placedBy};
+ghost use Rattle.nodes.specs.Code.{placedBy};
 ghost use Rattle.term.specs.Words.{words, Holds, Written, BracketAt, BuildAt, Builds, LayAt, PlaceAt};
 ghost use Rattle.term.specs.Weight.{unit, measured, sizeOf};
 ghost use Rattle.translation.specs.Translate.{translateRule, translate};
-use table::Checked;
+use checks::Checked;
 use table::Made;
-use table::NewNode;
+use nodes::NewNode;
 use table::Refusal;
 
 // What reading a term gives: the place after it, 0 where no term is, and what it counts towards the size of the tree.
@@ -252,18 +252,18 @@ fn lay(stack: &[u32], p: usize, table: &mut [u32], used: usize) -> NewNode
 {
     let x = stack[p];
     if x == 0 {
-        return table::new_node(table, used, 0, 0);
+        return nodes::new_node(table, used, 0, 0);
     }
     if x == 2 {
         let only = lay(stack, p + 2, table, used);
-        return table::new_node(table, only.used, only.node + 1, 0);
+        return nodes::new_node(table, only.used, only.node + 1, 0);
     }
     let u = p + 3;
     let v = p + 1 + (x / 2) as usize;
     let second = lay(stack, v, table, used);
     let next = second.used;
     let first = lay(stack, u, table, next);
-    table::new_node(table, first.used, first.node + 1, second.node + 1)
+    nodes::new_node(table, first.used, first.node + 1, second.node + 1)
 }
 
 // Makes the nodes of the rule's tree, for which there is room.
@@ -275,7 +275,7 @@ fn place(table: &mut [u32], used: usize, stack: &mut [u32], bytes: &[u8]) -> Mad
     build(bytes, 0, stack, 0, table, used * 2);
     let root = lay(stack, 0, table, used);
     let all = stack.len();
-    table::clear(stack, 0, all);
+    nodes::clear(stack, 0, all);
     Made::Node {
         node: root.node,
         used: root.used,
@@ -294,11 +294,11 @@ fn translate_rule(table: &mut [u32], used: usize, stack: &mut [u32], bytes: &[u8
     }
     let words = stack.len();
     if table.len() / 2 - used < nodes {
-        table::clear(stack, 0, words);
+        nodes::clear(stack, 0, words);
         return Made::Refused(Refusal::Nodes);
     }
     if words / 3 < 2 * nodes {
-        table::clear(stack, 0, words);
+        nodes::clear(stack, 0, words);
         return Made::Refused(Refusal::Frames);
     }
     place(table, used, stack, bytes)
@@ -309,9 +309,9 @@ pub fn translate(table: &mut [u32], used: usize, stack: &mut [u32], bytes: &[u8]
     ensures { λ r. ⌜ whole r (now (table .exit)) (now (stack .exit))
         ≡ translate (now (table .entry)) used (now (stack .entry)) (now (bytes .entry)) ⌝ }
 {
-    let entry = table::check(true, table, used, stack);
+    let entry = checks::check(true, table, used, stack);
     match entry {
         Checked::Refused(e) => Made::Refused(e),
-        Checked::Sound => translate_rule(table, used, stack, bytes),
+        Checked::Passed => translate_rule(table, used, stack, bytes),
     }
 }

@@ -9,6 +9,7 @@ use lib.ListN.{length, length-append}
 use lib.Dec.{eqb}
 use borrow.Author.Tests.{eqb-true}
 use Rattle.calculus.specs.Tree.{Tree, leaf, stem, fork, size}
+pub use Rattle.table.proofs.Words.{zero-one}
 use Rattle.ternary.specs.Text.{texts}
 use Rattle.ternary.specs.Text.{text, takeLeaf, takeStem, takeFork, takeDigit, pending, single, treeOf}
 
@@ -28,10 +29,6 @@ text-read t = ap (λ (l : List ℕ). single (pending l)) (sym (append-nil (text 
 -- No two trees have one text.
 pub text-unique : (t u : Tree) → text t ≡ text u → t ≡ u
 text-unique t u e = cc (text-read t, text-read u)
-
--- What follows where `cc` finds two constructors said to be equal: it proves 0 ≡ 1 from them.
-pub zero-one : {A : Type 0} → _≡_ {A = ℕ} 0 1 → A
-zero-one e = absurd (omega arith)
 
 -- what each digit leaves has the digit and the texts before
 module _ {ts : List Tree} where

@@ -8,19 +8,18 @@ use native.Mathlib.Omega.{arith}
 use lib.ListN.{length, drop}
 use lib.Seq.{drop-append-le, drop-append-add}
 use lib.Dec.{ltb, leb}
-use borrow.Author.Tests.{ltb-true, ltb-false, leb-true, le-leb, le-ltb}
+use borrow.Author.Tests.{ltb-true, ltb-false, leb-true, le-leb}
 use Rattle.calculus.specs.Tree.{Tree, leaf, stem, fork, size}
 use Rattle.table.specs.Nodes.{Table, Placed, capacity, Sound, treeAt, make, lay}
-use Rattle.table.specs.Outcome.{Outcome, whole, frames, zeros, atEntry, unless, stopped, placed, laid}
+use Rattle.table.specs.Outcome.{Outcome, whole, frames, zeros, atEntry, unless, placed, laid}
 use Rattle.table.specs.declared.Refusal.{Refusal}
 use Rattle.table.specs.declared.Refusal.the-variants.{Text, Nodes, Frames}
 use Rattle.table.specs.declared.Made.{Made}
 use Rattle.table.specs.declared.Made.the-variants.{Node, Refused}
-use Rattle.table.proofs.Words.{cleared-none}
 use Rattle.table.proofs.Trees.{Kept, kept-trans, kept-tree}
 use Rattle.table.proofs.Making.{Places, has, stays, stem-of, fork-of, lay-used, lay-node, lay-places}
 use Rattle.table.proofs.Entry.{Entered, entered, enters}
-use Rattle.table.proofs.Laid.{laid-gives, laid-answer, laid-stack}
+use Rattle.table.proofs.Laid.{Room, room-case, room-laid, laid-gives, laid-answer, laid-stack}
 use Rattle.ternary.specs.Text.{text, treeOf, mostPending}
 use Rattle.ternary.specs.Read.{readable, readTree, read}
 use Rattle.ternary.proofs.OneText.{zero-one, whole-text, length-text}
@@ -66,10 +65,6 @@ pub data ReadCase (w : List ℕ) (u : ℕ) (s l : List ℕ) (o : Outcome Made) :
   refuses : {e : Refusal} {s′ : List ℕ} → ReadLacks w u s l e s′ → o ≡ whole (Refused e) w s′ → ReadCase w u s l o
   lays : {t : Tree} → ReadHas w u s l t → o ≡ laid w u s t → ReadCase w u s l o
 
-none-made : (w : List ℕ) (u : ℕ) (s : List ℕ) (e : Refusal) → stopped (Refused e) (record { words = w; used = u }) u s ≡ whole (Refused e) w (zeros s)
-unfolding stopped
-none-made w u s e = rw (cleared-none w (u * 2))
-
 module _ (w : List ℕ) (u : ℕ) (s l : List ℕ) where
   -- Read's outcome is of one kind or the other.
   pub read-case : ReadCase w u s l (read w u s l)
@@ -80,19 +75,16 @@ module _ (w : List ℕ) (u : ℕ) (s l : List ℕ) where
           → ReadCase w u s l (unless a (λ e. whole (Refused e) w s) (readTree w u s l r))
       go (some e) r p q = refuses (at-entry p) refl
       go none none p q = refuses (no-text (entered true w u s p) q) refl
-      go none (some t) p q = room (ltb (capacity w - u) (length l)) (ltb (frames s) (mostPending l)) refl refl
+      go none (some t) p q = room (room-case w u s (length l) (mostPending l) t)
         where
           n : Entered true w u s
           n = entered true w u s p
 
-          room : (x y : Bool) → ltb (capacity w - u) (length l) ≡ x → ltb (frames s) (mostPending l) ≡ y
-              → ReadCase w u s l (cond x (stopped (Refused Nodes) (record { words = w; used = u }) u s) (cond y (stopped (Refused Frames) (record { words = w; used = u }) u s) (laid w u s t)))
-          room true y f g = refuses (no-nodes n (readable-some l t q) (ltb-true (capacity w - u) (length l) f)) (none-made w u s Nodes)
-          room false true f g =
-              refuses (no-frames n (readable-some l t q) (ltb-false (capacity w - u) (length l) f) (ltb-true (frames s) (mostPending l) g)) (none-made w u s Frames)
-          room false false f g =
-              let h = ltb-false (capacity w - u) (length l) f in
-              lays (record { entered = n; readable-as = readable-some l t q; nodes-enough = omega (arith, n .table .within); frames-enough = ltb-false (frames s) (mostPending l) g }) refl
+          room : {o : Outcome Made} → Room w u s (length l) (mostPending l) t o → ReadCase w u s l o
+          room (Room.no-nodes h r) = refuses (no-nodes n (readable-some l t q) h) r
+          room (Room.no-frames h k r) = refuses (no-frames n (readable-some l t q) h k) r
+          room (Room.enough h k r) =
+              lays (record { entered = n; readable-as = readable-some l t q; nodes-enough = omega (arith, n .table .within); frames-enough = k }) r
 
   -- "Read, Translate and Label meet 8 and 9 before they make a node": no refusal of Read changes a table word.
   pub read-refused : (e : Refusal) → read w u s l .answer ≡ Refused e → read w u s l .table ≡ w
@@ -118,7 +110,8 @@ module _ (w : List ℕ) (u : ℕ) (s l : List ℕ) where
   pub read-lays : (t : Tree) → ReadHas w u s l t → read w u s l ≡ laid w u s t
   unfolding read readTree
   read-lays t h =
-      rw (enters (h .entered), some-readable (h .readable-as), le-ltb (capacity w - u) (length l) (omega arith), le-ltb (frames s) (mostPending l) (h .frames-enough))
+      rw (enters (h .entered), some-readable (h .readable-as))
+      (sym (room-laid w u s (length l) (mostPending l) t (omega arith) (h .frames-enough)))
 
   -- "Digit p of n becomes node used + n − 1 − p": digit 0 is the node that is given.
   pub read-limits : (t : Tree) → ReadHas w u s l t → read w u s l .answer ≡ Node (u + length l - 1) (u + length l)

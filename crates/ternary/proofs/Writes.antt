@@ -11,12 +11,13 @@ use lib.Dec.{ltb, leb}
 use borrow.Author.Tests.{ltb-true, ltb-false, leb-true, lt-ltb}
 use Rattle.calculus.specs.Tree.{Tree, leaf, stem, fork, size}
 use Rattle.table.specs.Nodes.{treeAt}
-use Rattle.table.specs.Outcome.{frames, zeros, atEntry, unless}
+use Rattle.table.specs.Outcome.{Outcome, wholeOut, frames, zeros, atEntry, unless}
 use Rattle.table.specs.declared.Refusal.{Refusal}
 use Rattle.table.specs.declared.Refusal.the-variants.{Node, Frames, Out}
 use Rattle.table.proofs.Entry.{Entered, entered, enters}
 use Rattle.ternary.specs.Text.{text}
-use Rattle.ternary.specs.Write.{Outcome, whole, Room, left, lacks, next, spend, digits, written, write}
+use Rattle.ternary.specs.Write.{Room, left, lacks, next, spend, digits, written, writeTree, write}
+use Rattle.ternary.specs.declared.Written.{Written}
 use Rattle.ternary.specs.declared.Written.the-variants.{Digits, Refused}
 use Rattle.ternary.proofs.OneText.{zero-one, text-read, length-text}
 use Rattle.ternary.proofs.Reading.{Readable}
@@ -116,25 +117,25 @@ pub record WriteHas (w : List ℕ) (u : ℕ) (s : List ℕ) (i : ℕ) (o : List 
   pub frames-enough : forksPending (treeAt w i) ≤ frames s
 
 -- "Bytes past the text stay": the outcome where every digit is written
-abbrev pub allWritten : List ℕ → List ℕ → List ℕ → Tree → Outcome
-allWritten w s o t = whole (Digits (length (text t))) w (zeros s) (text t ++ drop (length (text t)) o)
+abbrev pub allWritten : List ℕ → List ℕ → List ℕ → Tree → Outcome Written
+allWritten w s o t = wholeOut (Digits (length (text t))) w (zeros s) (text t ++ drop (length (text t)) o)
 
 -- the two kinds of Write's outcome z
-pub data WriteCase (w : List ℕ) (u : ℕ) (s : List ℕ) (i : ℕ) (o : List ℕ) (z : Outcome) : Type 0 where
-  refuses : {e : Refusal} {s′ : List ℕ} → WriteLacks w u s i o e s′ → z ≡ whole (Refused e) w s′ o → WriteCase w u s i o z
+pub data WriteCase (w : List ℕ) (u : ℕ) (s : List ℕ) (i : ℕ) (o : List ℕ) (z : Outcome Written) : Type 0 where
+  refuses : {e : Refusal} {s′ : List ℕ} → WriteLacks w u s i o e s′ → z ≡ wholeOut (Refused e) w s′ o → WriteCase w u s i o z
   writes : WriteHas w u s i o → z ≡ allWritten w s o (treeAt w i) → WriteCase w u s i o z
 
 module _ (w : List ℕ) (u : ℕ) (s : List ℕ) (i : ℕ) (o : List ℕ) where
   -- Write's outcome is of one kind or the other.
   pub write-case : WriteCase w u s i o (write w u s i o)
-  unfolding write written
+  unfolding write writeTree written
   write-case = go (atEntry (leb (length o) 65535) w u s) (ltb i u) refl refl
     where
       t : Tree
       t = treeAt w i
 
       go : (a : Option Refusal) (b : Bool) → atEntry (leb (length o) 65535) w u s ≡ a → ltb i u ≡ b
-          → WriteCase w u s i o (unless a (λ e. whole (Refused e) w s o) (cond b (written w s o t (digits (frames s) 0 t (length o))) (whole (Refused Node) w s o)))
+          → WriteCase w u s i o (unless a (λ e. wholeOut (Refused e) w s o) (cond b (written w s o t (digits (frames s) 0 t (length o))) (wholeOut (Refused Node) w s o)))
       go (some e) b p q = refuses (at-entry p) refl
       go none false p q = refuses (no-node (entered (leb (length o) 65535) w u s p) (ltb-false i u q)) refl
       go none true p q = room (digits-spend (frames s) 0 t (length o))
@@ -171,7 +172,7 @@ module _ (w : List ℕ) (u : ℕ) (s : List ℕ) (i : ℕ) (o : List ℕ) where
 
   -- On an entered table, with a node in use, a byte for each digit and a frame for each fork pending, no refusal comes.
   pub write-limits : WriteHas w u s i o → write w u s i o ≡ allWritten w s o (treeAt w i)
-  unfolding write written
+  unfolding write writeTree written
   write-limits h = rw (enters (h .entered), lt-ltb i u (h .inside), digits-exact (frames s) 0 (treeAt w i) (length o) (h .bytes-enough) (omega (arith, h .frames-enough)))
 
 -- What the n digits that Write wrote are: the text of node i's tree. "Bytes past the text stay."
@@ -197,7 +198,7 @@ module _ (w : List ℕ) (u : ℕ) (s : List ℕ) (i : ℕ) (o : List ℕ) (n : �
             entered = h .entered;
             inside = h .inside;
             digits-are = d;
-            out-is = rw d (ap (λ (z : Outcome). z .out) r);
+            out-is = rw d (ap (λ (z : Outcome Written). z .out) r);
             fits = omega (arith, length-text (treeAt w i), h .bytes-enough);
             table = cc;
             stack = cc;
@@ -209,5 +210,5 @@ module _ (w : List ℕ) (u : ℕ) (s : List ℕ) (i : ℕ) (o : List ℕ) (n : �
 
   pub written-readable : Writes w u s i o n → Readable (take n (write w u s i o .out)) (treeAt w i)
   written-readable x =
-      let b = leb-true (length o) 65535 (x .entered .owned) in
+      let b = leb-true (length o) 65535 (x .entered .limits-kept) in
       rw (write-text x) (record { short = omega (arith, x .digits-are, x .fits); tree-of = text-read (treeAt w i) })

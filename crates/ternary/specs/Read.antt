@@ -1,14 +1,13 @@
 -- The whole outcome of Read (Operations, Read). Assumes nothing: these are definitions.
-use Prim.Native.Nat.{ℕ, _-_}
+use Prim.Native.Nat.{ℕ}
 use mathlib.Core.Bool.{Bool, true, false, cond}
 use mathlib.Core.List.{List, [], _∷_}
 use mathlib.Core.Option.{Option, none, some}
 use lib.ListN.{length}
-use lib.Dec.{ltb, leb}
+use lib.Dec.{leb}
 use Rattle.calculus.specs.Tree.{Tree}
-use Rattle.table.specs.Nodes.{Table, capacity}
-use Rattle.table.specs.Outcome.{Outcome, whole, frames, atEntry, unless, stopped, laid}
-use Rattle.table.specs.declared.Refusal.the-variants.{Text, Nodes, Frames}
+use Rattle.table.specs.Outcome.{Outcome, whole, atEntry, unless, laidWithin}
+use Rattle.table.specs.declared.Refusal.the-variants.{Text}
 use Rattle.table.specs.declared.Made.{Made}
 use Rattle.table.specs.declared.Made.the-variants.{Refused}
 use Rattle.ternary.specs.Text.{treeOf, mostPending}
@@ -22,13 +21,10 @@ unfoldable pub isSome : {A : Type 0} → Option A → Bool
 isSome none = false
 isSome (some a) = true
 
--- "8: more digits than free nodes. 9: fewer frames than the most trees pending". Both are met before a node is made.
+-- "8: more digits than free nodes. 9: fewer frames than the most trees pending": what Read does on a table that passed 1 and 2.
 unfoldable pub readTree : List ℕ → ℕ → List ℕ → List ℕ → Option Tree → Outcome Made
 readTree w u s l none = whole (Refused Text) w s
-readTree w u s l (some t) =
-    cond (ltb (capacity w - u) (length l)) (stopped (Refused Nodes) (record { words = w; used = u }) u s)
-    (cond (ltb (frames s) (mostPending l)) (stopped (Refused Frames) (record { words = w; used = u }) u s)
-    (laid w u s t))
+readTree w u s l (some t) = laidWithin w u s (length l) (mostPending l) t
 
 -- Read the text l into the table w with u nodes in use, with the stack s.
 unfoldable pub read : List ℕ → ℕ → List ℕ → List ℕ → Outcome Made

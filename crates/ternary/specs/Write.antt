@@ -6,23 +6,13 @@ use lib.ListN.{length, drop}
 use lib.Dec.{ltb, leb}
 use Rattle.calculus.specs.Tree.{Tree, leaf, stem, fork}
 use Rattle.table.specs.Nodes.{treeAt}
-use Rattle.table.specs.Outcome.{frames, zeros, atEntry, unless}
+use Rattle.table.specs.Outcome.{Outcome, wholeOut, frames, zeros, atEntry, unless}
 use Rattle.table.specs.Refusal.{Numbers, refusedNumbers}
 use Rattle.table.specs.declared.Refusal.{Refusal}
 use Rattle.table.specs.declared.Refusal.the-variants.{Node, Frames, Out}
 use Rattle.ternary.specs.Text.{text}
 use Rattle.ternary.specs.declared.Written.{Written}
 use Rattle.ternary.specs.declared.Written.the-variants.{Digits, Refused}
-
--- the answer, every lent word and every out byte as Write leaves it
-pub record Outcome : Type 0 where
-  pub answer : Written
-  pub table : List ℕ
-  pub stack : List ℕ
-  pub out : List ℕ
-
-abbrev pub whole : Written → List ℕ → List ℕ → List ℕ → Outcome
-whole a w s o = record { answer = a; table = w; stack = s; out = o }
 
 -- the numbers of Write's answer, with `used` as at entry
 unfoldable pub writtenNumbers : ℕ → Written → Numbers
@@ -51,12 +41,16 @@ digits all held (stem p) n = spend n (digits all held p)
 digits all held (fork p q) n = spend n (λ m. cond (ltb held all) (next (digits all held q) (digits all (suc held) p m)) (lacks Frames))
 
 -- "Bytes past the text stay." A refusal leaves all out bytes.
-unfoldable pub written : List ℕ → List ℕ → List ℕ → Tree → Room → Outcome
-written w s o t (left n) = whole (Digits (length (text t))) w (zeros s) (text t ++ drop (length (text t)) o)
-written w s o t (lacks e) = whole (Refused e) w (zeros s) o
+unfoldable pub written : List ℕ → List ℕ → List ℕ → Tree → Room → Outcome Written
+written w s o t (left n) = wholeOut (Digits (length (text t))) w (zeros s) (text t ++ drop (length (text t)) o)
+written w s o t (lacks e) = wholeOut (Refused e) w (zeros s) o
+
+-- what Write does on a table that passed 1 and 2, with the tree of a node in use
+unfoldable pub writeTree : List ℕ → List ℕ → List ℕ → Tree → Outcome Written
+writeTree w s o t = written w s o t (digits (frames s) 0 t (length o))
 
 -- Write the tree of node i of the table w with u nodes in use to the out bytes o, with the stack s.
-unfoldable pub write : List ℕ → ℕ → List ℕ → ℕ → List ℕ → Outcome
+unfoldable pub write : List ℕ → ℕ → List ℕ → ℕ → List ℕ → Outcome Written
 write w u s i o =
-    unless (atEntry (leb (length o) 65535) w u s) (λ e. whole (Refused e) w s o)
-    (cond (ltb i u) (written w s o (treeAt w i) (digits (frames s) 0 (treeAt w i) (length o))) (whole (Refused Node) w s o))
+    unless (atEntry (leb (length o) 65535) w u s) (λ e. wholeOut (Refused e) w s o)
+    (cond (ltb i u) (writeTree w s o (treeAt w i)) (wholeOut (Refused Node) w s o))

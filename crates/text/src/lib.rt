@@ -13,9 +13,9 @@ ghost use Rattle.ternary.specs.Read.{readable, isSome, read, readTree};
 ghost use Rattle.ternary.specs.Write.{digits};
 ghost use Rattle.ternary.specs.Write as writing;
 ghost use Rattle.text.specs.Code.{leafDigit, forkDigit, digitWith, Stands, StandsSome, DigitSays, roomOf, FitsIn, ScanSays, LaidBy, TakesDigit, LaysText, laysAs};
-use table::Checked;
+use checks::Checked;
 use table::Made;
-use table::NewNode;
+use nodes::NewNode;
 use table::Refusal;
 use ternary::Written;
 
@@ -111,16 +111,16 @@ fn lay_digit(table: &mut [u32], used: usize, stack: &mut [u32], held: usize, c: 
         → LaidBy t us (now (table .exit)) (r .used) (now (stack .exit)) (r .held)) ⌝ }
 {
     if c == 48 {
-        let n = table::new_node(table, used, 0, 0);
+        let n = nodes::new_node(table, used, 0, 0);
         return hold(stack, held, n);
     }
-    let p = table::word(stack, (held - 1) * 3) + 1;
+    let p = nodes::word(stack, (held - 1) * 3) + 1;
     if c == 49 {
-        let n = table::new_node(table, used, p, 0);
+        let n = nodes::new_node(table, used, p, 0);
         return hold(stack, held - 1, n);
     }
-    let q = table::word(stack, (held - 2) * 3) + 1;
-    let n = table::new_node(table, used, p, q);
+    let q = nodes::word(stack, (held - 2) * 3) + 1;
+    let n = nodes::new_node(table, used, p, q);
     hold(stack, held - 2, n)
 }
 
@@ -149,15 +149,15 @@ fn read_whole(table: &mut [u32], used: usize, stack: &mut [u32], text: &[u8], mo
 {
     let len = stack.len();
     if table.len() / 2 - used < text.len() {
-        table::clear(stack, 0, len);
+        nodes::clear(stack, 0, len);
         return Made::Refused(Refusal::Nodes);
     }
     if len / 3 < most {
-        table::clear(stack, 0, len);
+        nodes::clear(stack, 0, len);
         return Made::Refused(Refusal::Frames);
     }
     let next = lay_text(table, used, stack, text);
-    table::clear(stack, 0, len);
+    nodes::clear(stack, 0, len);
     Made::Node {
         node: next - 1,
         used: next,
@@ -168,7 +168,7 @@ fn read_whole(table: &mut [u32], used: usize, stack: &mut [u32], text: &[u8], mo
 pub fn read(table: &mut [u32], used: usize, stack: &mut [u32], text: &[u8]) -> Made
     ensures { λ r. ⌜ whole r (now (table .exit)) (now (stack .exit)) ≡ read (now (table .entry)) used (now (stack .entry)) (now (text .entry)) ⌝ }
 {
-    let checked = table::check(true, table, used, stack);
+    let checked = checks::check(true, table, used, stack);
     if let Checked::Refused(e) = checked {
         return Made::Refused(e);
     }
@@ -220,7 +220,7 @@ fn leaf_digit(stack: &[u32], held: usize, left: usize) -> Digit
             },
         };
     }
-    let at = table::word(stack, (held - 1) * 3);
+    let at = nodes::word(stack, (held - 1) * 3);
     Digit {
         value: 48,
         then: Then::More,
@@ -272,11 +272,11 @@ fn next_digit(table: &[u32], used: usize, stack: &mut [u32], walk: Walk) -> Digi
             walk: walk,
         };
     }
-    let a = table::word(table, at * 2);
+    let a = nodes::word(table, at * 2);
     if a == 0 {
         return leaf_digit(stack, walk.held, left - 1);
     }
-    let b = table::word(table, at * 2 + 1);
+    let b = nodes::word(table, at * 2 + 1);
     if b == 0 {
         return Digit {
             value: 49,
@@ -351,7 +351,7 @@ pub fn write(table: &[u32], used: usize, stack: &mut [u32], node: usize, out: &m
     ensures { λ r. ⌜ writing.whole r (now (table .entry)) (now (stack .exit)) (now (out .exit)) ≡ writing.write (now (table .entry)) used (now (stack .entry)) node (now (out .entry)) ⌝ }
 {
     let short = out.len() <= 65535;
-    let checked = table::check(short, table, used, stack);
+    let checked = checks::check(short, table, used, stack);
     if let Checked::Refused(e) = checked {
         return Written::Refused(e);
     }
@@ -361,10 +361,10 @@ pub fn write(table: &[u32], used: usize, stack: &mut [u32], node: usize, out: &m
     let len = stack.len();
     let fit = measure(table, used, stack, node, out.len());
     if let Fit::Lacks(e) = fit {
-        table::clear(stack, 0, len);
+        nodes::clear(stack, 0, len);
         return Written::Refused(e);
     }
     let n = put_text(table, used, stack, node, out);
-    table::clear(stack, 0, len);
+    nodes::clear(stack, 0, len);
     Written::Digits(n)
 }

@@ -1,3 +1,2 @@
 -- The theorems of Translate; other crates cite them.
 pub mod Translates
-pub mod Lacks

@@ -1,26 +1,22 @@
--- Laws of Translate for callers: what a success gives, and what a refusal leaves. Assumes nothing.
-use Prim.Native.Nat.{ℕ, _+_, _-_, _*_, _≤_}
+-- Laws of Translate for callers: what a success gives, what was lacking where it is refused, and what a refusal leaves. Assumes nothing.
+use Prim.Native.Nat.{ℕ, _+_, _-_, _*_, _≤_, _<_}
 use mathlib.Core.Path.{_≡_, refl, sym, ap, _∙_}
-use mathlib.Core.Bool.{Bool, true, false, cond}
+use mathlib.Core.Bool.{true}
 use mathlib.Core.List.{List}
 use mathlib.Core.Option.{Option, none, some}
-use native.Mathlib.Omega.{arith}
-use lib.Dec.{ltb}
-use borrow.Author.Tests.{ltb-false, le-ltb}
 use Rattle.calculus.specs.Tree.{size}
 use Rattle.calculus.specs.Term.{Term}
 use Rattle.calculus.specs.Bytes.{rule}
 use Rattle.calculus.specs.Abstraction.{ruleTree}
-use Rattle.table.specs.Nodes.{Table, capacity, Sound}
-use Rattle.table.specs.Outcome.{Outcome, whole, zeros, frames, atEntry, unless, stopped, laid}
+use Rattle.table.specs.Outcome.{Outcome, Entered, whole, zeros, atEntry, unless, laid}
 use Rattle.table.specs.declared.Refusal.{Refusal}
-use Rattle.table.specs.declared.Refusal.the-variants.{Rule, Nodes, Frames}
 use Rattle.table.specs.declared.Made.{Made}
 use Rattle.table.specs.declared.Made.the-variants.{Node, Refused}
-use Rattle.table.proofs.Words.{cleared-none}
-use Rattle.table.proofs.Entry.{Entered, entered, enters}
-use Rattle.table.proofs.Laid.{refused-made, Lays, laid-gives, laid-answer, laid-stack}
+use Rattle.table.proofs.Words.{zero-one}
+use Rattle.table.proofs.Entry.{entered, enters}
+use Rattle.table.proofs.Laid.{Room, room-case, room-laid, Lays, laid-gives, laid-answer, laid-stack}
 use Rattle.translation.specs.Translate.{translateRule, translate}
+use Rattle.translation.specs.Lacks.{Lacks, Has}
 
 -- What a Translate that gave node v says: its bytes are a rule, the node has the translated rule's tree, "Nodes lie as Read would lay its text",
 -- and old nodes keep their trees.
@@ -32,63 +28,67 @@ pub record Translates (w : List ℕ) (u : ℕ) (s b : List ℕ) (v u′ : ℕ) :
   pub laid-is : translate w u s b ≡ laid w u s (ruleTree term)
   pub stack : translate w u s b .stack ≡ zeros s
 
-module _ (w : List ℕ) (u : ℕ) (s b : List ℕ) (v u′ : ℕ) where
-  -- the outcome o of a rule's tree, as far as the checks have come
-  Gives : Outcome Made → Type 0
-  Gives o = o .answer ≡ Node v u′ → (t : Term) × (rule b ≡ some t) × Lays w u (ruleTree t) o v u′ × (o ≡ laid w u s (ruleTree t))
+-- the two kinds of Translate's outcome o
+data Case (w : List ℕ) (u : ℕ) (s b : List ℕ) (o : Outcome Made) : Type 0 where
+  refuses : {e : Refusal} {s′ : List ℕ} → Lacks w u s b e s′ → o ≡ whole (Refused e) w s′ → Case w u s b o
+  lays-out : {t : Term} → Has w u s b t → o ≡ laid w u s (ruleTree t) → Case w u s b o
 
-  from-rule : Sound (record { words = w; used = u }) → (r : Option Term) → rule b ≡ r → Gives (translateRule w u s r)
-  unfolding translateRule stopped Gives
-  from-rule f none q = λ e. refused-made e
-  from-rule f (some t) q = go (ltb (capacity w - u) (size (ruleTree t))) (ltb (frames s) (2 * size (ruleTree t))) refl
+module _ (w : List ℕ) (u : ℕ) (s b : List ℕ) where
+  case : Case w u s b (translate w u s b)
+  unfolding translate translateRule
+  case = go (atEntry true w u s) (rule b) refl refl
     where
-      go : (x y : Bool) → ltb (capacity w - u) (size (ruleTree t)) ≡ x
-          → Gives (cond x (stopped (Refused Nodes) (record { words = w; used = u }) u s) (cond y (stopped (Refused Frames) (record { words = w; used = u }) u s) (laid w u s (ruleTree t))))
-      go true y h e = refused-made e
-      go false true h e = refused-made e
-      go false false h e =
-          (t, q, laid-gives w u s (ruleTree t) v u′ f (ltb-false (capacity w - u) (size (ruleTree t)) h) e, refl)
+      go : (a : Option Refusal) (r : Option Term) → atEntry true w u s ≡ a → rule b ≡ r
+          → Case w u s b (unless a (λ e. whole (Refused e) w s) (translateRule w u s r))
+      go (some e) r p q = refuses (Lacks.at-entry p) refl
+      go none none p q = refuses (Lacks.no-rule (entered true w u s p) q) refl
+      go none (some t) p q = room (room-case w u s (size (ruleTree t)) (2 * size (ruleTree t)) (ruleTree t))
+        where
+          n : Entered true w u s
+          n = entered true w u s p
 
-  from-entry : (c : Option Refusal) → atEntry true w u s ≡ c
-      → unless c (λ e. whole (Refused e) w s) (translateRule w u s (rule b)) .answer ≡ Node v u′
-      → Entered true w u s × Gives (unless c (λ e. whole (Refused e) w s) (translateRule w u s (rule b)))
-  unfolding Gives
-  from-entry (some e) c q = refused-made q
-  from-entry none c q = let f = entered true w u s c in (f, from-rule (f .table) (rule b) refl)
+          room : {o : Outcome Made} → Room w u s (size (ruleTree t)) (2 * size (ruleTree t)) (ruleTree t) o → Case w u s b o
+          room (Room.no-nodes h r) = refuses (Lacks.no-nodes n q h) r
+          room (Room.no-frames h k r) = refuses (Lacks.no-frames n q h k) r
+          room (Room.enough h k r) = lays-out (record { entered = n; is-rule = q; nodes-enough = h; frames-enough = k }) r
 
-  pub translate-gives : translate w u s b .answer ≡ Node v u′ → Translates w u s b v u′
-  unfolding translate Gives
-  translate-gives q =
-      let r = from-entry (atEntry true w u s) refl q in
-      let g = r .1 q in
-      record { entry = r .0; term = g .0; is-rule = g .1; lays = g .2; laid-is = g .3; stack = ap (λ (o : Outcome Made). o .stack) (g .3) ∙ laid-stack w u s (ruleTree (g .0)) }
+  -- "Translate a rule.": where Translate gives a node, its tree is the translated rule's.
+  pub translate-gives : (v u′ : ℕ) → translate w u s b .answer ≡ Node v u′ → Translates w u s b v u′
+  translate-gives v u′ q = go case
+    where
+      go : Case w u s b (translate w u s b) → Translates w u s b v u′
+      go (refuses k r) = zero-one (cc)
+      go (lays-out {t} h r) =
+          let g = laid-gives w u s (ruleTree t) v u′ (h .entered .table) (h .nodes-enough) (cc) in
+          record { entry = h .entered; term = t; is-rule = h .is-rule; lays = rw r g; laid-is = r; stack = rw r (laid-stack w u s (ruleTree t)) }
 
--- no refusal of Translate changes a table word
-refused-rule : (w : List ℕ) (u : ℕ) (s : List ℕ) (r : Option Term) (e : Refusal) → translateRule w u s r .answer ≡ Refused e → translateRule w u s r .table ≡ w
-unfolding translateRule stopped
-refused-rule w u s none e = λ q. refl
-refused-rule w u s (some t) e = go (ltb (capacity w - u) (size (ruleTree t))) (ltb (frames s) (2 * size (ruleTree t)))
-  where
-    go : (x y : Bool)
-        → cond x (stopped (Refused Nodes) (record { words = w; used = u }) u s) (cond y (stopped (Refused Frames) (record { words = w; used = u }) u s) (laid w u s (ruleTree t))) .answer ≡ Refused e
-        → cond x (stopped (Refused Nodes) (record { words = w; used = u }) u s) (cond y (stopped (Refused Frames) (record { words = w; used = u }) u s) (laid w u s (ruleTree t))) .table ≡ w
-    go true y q = cleared-none w (u * 2)
-    go false true q = cleared-none w (u * 2)
-    go false false q = refused-made (sym q ∙ laid-answer w u s (ruleTree t))
+  module _ (e : Refusal) (q : translate w u s b .answer ≡ Refused e) where
+    -- "Numbers 1 to 6 [..] leave lent memory as found. Numbers 7 to 10 set to 0 [..] the whole stack": a refusal comes only on its condition, and
+    -- leaves the stack so.
+    pub translate-lacks : Lacks w u s b e (translate w u s b .stack)
+    translate-lacks = go case
+      where
+        go : Case w u s b (translate w u s b) → Lacks w u s b e (translate w u s b .stack)
+        go (refuses {e = f} {s′} k r) =
+            let a : translate w u s b .stack ≡ s′ = cc in
+            let c : f ≡ e = cc in
+            rw (a, ← c) k
+        go (lays-out {t} h r) = zero-one (cc (laid-answer w u s (ruleTree t)))
 
-pub translate-refused : (w : List ℕ) (u : ℕ) (s b : List ℕ) (e : Refusal) → translate w u s b .answer ≡ Refused e → translate w u s b .table ≡ w
-unfolding translate
-translate-refused w u s b e = go (atEntry true w u s)
-  where
-    go : (c : Option Refusal) → unless c (λ e. whole (Refused e) w s) (translateRule w u s (rule b)) .answer ≡ Refused e
-        → unless c (λ e. whole (Refused e) w s) (translateRule w u s (rule b)) .table ≡ w
-    go (some c) q = refl
-    go none q = refused-rule w u s (rule b) e q
+    -- no refusal of Translate changes a table word
+    pub translate-refused : translate w u s b .table ≡ w
+    translate-refused = go case
+      where
+        go : Case w u s b (translate w u s b) → translate w u s b .table ≡ w
+        go (refuses k r) = cc
+        go (lays-out {t} h r) = zero-one (cc (laid-answer w u s (ruleTree t)))
 
--- with a sound table, a rule, and room for its tree, Translate gives the tree's last node
-pub translate-answer : {w : List ℕ} {u : ℕ} {s : List ℕ} → Entered true w u s → (b : List ℕ) (t : Term) → rule b ≡ some t
-    → size (ruleTree t) ≤ capacity w - u → 2 * size (ruleTree t) ≤ frames s
-    → translate w u s b .answer ≡ Node (u + size (ruleTree t) - 1) (u + size (ruleTree t))
-unfolding translate translateRule
-translate-answer {w} {u} {s} f b t q h k =
-    rw (enters f, q, le-ltb (capacity w - u) (size (ruleTree t)) h, le-ltb (frames s) (2 * size (ruleTree t)) k) (laid-answer w u s (ruleTree t))
+  -- with a sound table, a rule, and room for its tree, Translate lays it out and gives its last node
+  pub translate-lays : (t : Term) → Has w u s b t → translate w u s b ≡ laid w u s (ruleTree t)
+  unfolding translate translateRule
+  translate-lays t h =
+      rw (enters (h .entered), h .is-rule)
+      (sym (room-laid w u s (size (ruleTree t)) (2 * size (ruleTree t)) (ruleTree t) (h .nodes-enough) (h .frames-enough)))
+
+  pub translate-answer : (t : Term) → Has w u s b t → translate w u s b .answer ≡ Node (u + size (ruleTree t) - 1) (u + size (ruleTree t))
+  translate-answer t h = rw (translate-lays t h) (laid-answer w u s (ruleTree t))

@@ -1,2 +1,3 @@
--- Translate. Assumes nothing: these are definitions.
+-- Translate, and what it lacks where it is refused. Assumes nothing: these are definitions.
 pub mod Translate
+pub mod Lacks

@@ -1,27 +1,22 @@
 -- The whole outcome of Translate (Operations, Translate). Assumes nothing: these are definitions.
-use Prim.Native.Nat.{ℕ, _-_, _*_}
-use mathlib.Core.Bool.{Bool, true, false, cond}
+use Prim.Native.Nat.{ℕ, _*_}
+use mathlib.Core.Bool.{true}
 use mathlib.Core.List.{List}
 use mathlib.Core.Option.{Option, none, some}
-use lib.Dec.{ltb}
 use Rattle.calculus.specs.Tree.{size}
 use Rattle.calculus.specs.Term.{Term}
 use Rattle.calculus.specs.Bytes.{rule}
 use Rattle.calculus.specs.Abstraction.{ruleTree}
-use Rattle.table.specs.Nodes.{Table, capacity}
-use Rattle.table.specs.Outcome.{Outcome, whole, frames, atEntry, unless, stopped, laid}
-use Rattle.table.specs.declared.Refusal.the-variants.{Rule, Nodes, Frames}
+use Rattle.table.specs.Outcome.{Outcome, whole, atEntry, unless, laidWithin}
+use Rattle.table.specs.declared.Refusal.the-variants.{Rule}
 use Rattle.table.specs.declared.Made.{Made}
 use Rattle.table.specs.declared.Made.the-variants.{Refused}
 
 -- "5: bytes not a rule. 8: tree larger than the free nodes. 9: fewer than two frames for each node of the tree. Nodes lie as Read would lay its
--- text." 8 and 9 are met before a node is made.
+-- text.": what Translate does on a table that passed 1 and 2.
 unfoldable pub translateRule : List ℕ → ℕ → List ℕ → Option Term → Outcome Made
 translateRule w u s none = whole (Refused Rule) w s
-translateRule w u s (some t) =
-    cond (ltb (capacity w - u) (size (ruleTree t))) (stopped (Refused Nodes) (record { words = w; used = u }) u s)
-    (cond (ltb (frames s) (2 * size (ruleTree t))) (stopped (Refused Frames) (record { words = w; used = u }) u s)
-    (laid w u s (ruleTree t)))
+translateRule w u s (some t) = laidWithin w u s (size (ruleTree t)) (2 * size (ruleTree t)) (ruleTree t)
 
 -- Translate the rule b into the table w with u nodes in use, with the stack s.
 unfoldable pub translate : List ℕ → ℕ → List ℕ → List ℕ → Outcome Made

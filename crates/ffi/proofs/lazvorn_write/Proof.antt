@@ -1,5 +1,6 @@
 -- `ffi::lazvorn_write` meets its contract: the operation's outcome, with its answer as numbers. Assumes nothing.
-use Rattle.ffi.proofs.Telling.{tells-written}
+use Rattle.ternary.specs.Write.{writtenNumbers}
+use Rattle.ffi.proofs.Numbered.{is-numbered}
 use borrow.Author.Needs.{needs}
 use Rattle.ffi.proofs.lazvorn_write.Statement.{statement}
 use Rattle.ffi.proofs.lazvorn_write.Tie as tie
@@ -19,7 +20,7 @@ same-length-2 c = search needs
 returns : tie.Need-returns
 returns c =
     let call = c .before .before .before .before .before in
-    tells-written (call .before .before .before .before .before .before .args .used) (c .written .ensures) (call .write .ensures)
+    is-numbered (writtenNumbers (call .before .before .before .before .before .before .args .used)) (c .written .ensures) (call .write .ensures)
 
 pub lazvorn-write-spec : {M : Type 1} → statement M
 lazvorn-write-spec =

@@ -11,7 +11,7 @@ use borrow.Fn.PlainCycle.{Measures, is, falls, and}
 use Rattle.term.proofs.lay.Reads as lay
 use Rattle.term.proofs.lay.Kinds as lay-kinds
 use Rattle.term.proofs.+lay.Lts-lay as lay-lts
-use Rattle.table.proofs.new_node.Reads as new-node-reads
+use Rattle.nodes.proofs.new_node.Reads as new-node-reads
 use Rattle.term.proofs.+lay.{statement}
 use Rattle.term.proofs.+lay.Tie.{close}
 

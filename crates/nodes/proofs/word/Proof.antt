@@ -1,9 +1,9 @@
--- `table::word` meets its contract: a word of a slice fits 32 bits. Assumes nothing.
+-- `nodes::word` meets its contract: a word of a slice fits 32 bits. Assumes nothing.
 use native.Mathlib.Omega.{arith}
 use mathlib.Core.Path.{refl}
 use borrow.Author.Needs.{needs}
-use Rattle.table.proofs.word.Statement.{statement}
-use Rattle.table.proofs.word.Tie as tie
+use Rattle.nodes.proofs.word.Statement.{statement}
+use Rattle.nodes.proofs.word.Tie as tie
 
 mul-result : tie.Need-mul-result
 mul-result c = search needs

@@ -1,13 +1,13 @@
--- `table::is_sound` meets its contract. The loop's invariant: what is asked of all nodes is asked of those below i. Assumes nothing.
+-- `checks::is_sound` meets its contract. The loop's invariant: what is asked of all nodes is asked of those below i. Assumes nothing.
 use Prim.Native.Nat.{_≤_, _-_}
 use mathlib.Core.Path.{_≡_, refl, sym, ap, _∙_}
 use mathlib.Core.Bool.{true, false}
 use native.Mathlib.Omega.{arith}
 use borrow.Author.Needs.{needs}
 use Rattle.table.specs.Nodes.{first, second, broken, sound}
-use Rattle.table.proofs.Scan.{sound-none, sound-down}
-use Rattle.table.proofs.is_sound.Statement.{statement}
-use Rattle.table.proofs.is_sound.Tie as tie
+use Rattle.checks.proofs.Scan.{sound-none, sound-down}
+use Rattle.checks.proofs.is_sound.Statement.{statement}
+use Rattle.checks.proofs.is_sound.Tie as tie
 
 abbrev Inv-loop : tie.InvT-loop
 Inv-loop table used i₀ i = (i ≤ used) × (sound table used ≡ sound table i)

@@ -1,8 +1,8 @@
--- `table::is_broken` meets its contract. Assumes nothing.
+-- `checks::is_broken` meets its contract. Assumes nothing.
 use native.Mathlib.Omega.{arith}
-use Rattle.table.proofs.Scan.{broken-first, broken-second, broken-gap}
-use Rattle.table.proofs.is_broken.Statement.{statement}
-use Rattle.table.proofs.is_broken.Tie as tie
+use Rattle.checks.proofs.Scan.{broken-first, broken-second, broken-gap}
+use Rattle.checks.proofs.is_broken.Statement.{statement}
+use Rattle.checks.proofs.is_broken.Tie as tie
 
 returns : tie.Need-returns
 returns c = broken-first _ _ _ (c .if1 .taken)

@@ -1,13 +1,13 @@
--- `table::clear` meets its contract. The loop's invariant: the words from a up to i are cleared. Assumes nothing.
+-- `nodes::clear` meets its contract. The loop's invariant: the words from a up to i are cleared. Assumes nothing.
 use Prim.Native.Nat.{ℕ, _≤_, _-_}
 use mathlib.Core.List.{List}
 use mathlib.Core.Path.{_≡_, refl, sym, ap, _∙_}
 use native.Mathlib.Omega.{arith}
 use lib.ListN.{length, length-set, set}
 use Rattle.table.specs.Nodes.{cleared}
 use Rattle.table.proofs.Words.{cleared-none, cleared-more, length-cleared}
-use Rattle.table.proofs.clear.Statement.{statement}
-use Rattle.table.proofs.clear.Tie as tie
+use Rattle.nodes.proofs.clear.Statement.{statement}
+use Rattle.nodes.proofs.clear.Tie as tie
 
 abbrev Inv-loop : tie.InvT-loop
 Inv-loop words₀ a b i₀ words i = (a ≤ i) × (i ≤ b) × (words ≡ cleared words₀ a i)

@@ -1,9 +1,9 @@
--- `table::new_node` meets its contract: the two stores are `make`. Assumes nothing.
+-- `nodes::new_node` meets its contract: the two stores are `make`. Assumes nothing.
 use mathlib.Core.Path.{refl}
 use Rattle.table.specs.Nodes.{make}
 use borrow.Author.Needs.{needs}
-use Rattle.table.proofs.new_node.Statement.{statement}
-use Rattle.table.proofs.new_node.Tie as tie
+use Rattle.nodes.proofs.new_node.Statement.{statement}
+use Rattle.nodes.proofs.new_node.Tie as tie
 
 cast-table : tie.Need-cast-table
 cast-table c = search needs

@@ -50,26 +50,26 @@ sound-down w zero h x e = absurd (omega arith)
 sound-down w (suc k) h x e = let q : suc k - 1 ≡ k = omega arith in rw (q, rw q at e)
 
 -- the checks at entry
-module _ (own : Bool) (w : List ℕ) (u : ℕ) (s : List ℕ) where
-  pub not-own : own ≡ false → some Limits ≡ atEntry own w u s
+module _ (within : Bool) (w : List ℕ) (u : ℕ) (s : List ℕ) where
+  pub not-within : within ≡ false → some Limits ≡ atEntry within w u s
   unfolding atEntry
-  not-own e = rw e
+  not-within e = rw e
 
-  module _ (o : own ≡ true) where
-    pub long-table : 131072 < length w → some Limits ≡ atEntry own w u s
+  module _ (o : within ≡ true) where
+    pub long-table : 131072 < length w → some Limits ≡ atEntry within w u s
     unfolding atEntry fits
     long-table h = rw (o, lt-leb (length w) 131072 h)
 
     module _ (a : length w ≤ 131072) where
-      pub long-stack : 65536 < length s → some Limits ≡ atEntry own w u s
+      pub long-stack : 65536 < length s → some Limits ≡ atEntry within w u s
       unfolding atEntry fits
       long-stack h = rw (o, le-leb (length w) 131072 a, lt-leb (length s) 65536 h)
 
       module _ (b : length s ≤ 65536) where
-        pub over-used : length w / 2 < u → some Limits ≡ atEntry own w u s
+        pub over-used : length w / 2 < u → some Limits ≡ atEntry within w u s
         unfolding atEntry fits
         over-used h = rw (o, le-leb (length w) 131072 a, le-leb (length s) 65536 b, lt-leb u (length w / 2) h)
 
-        pub by-scan : u ≤ length w / 2 → (x : Bool) → x ≡ sound w u → cond x none (some Broken) ≡ atEntry own w u s
+        pub by-scan : u ≤ length w / 2 → (x : Bool) → x ≡ sound w u → cond x none (some Broken) ≡ atEntry within w u s
         unfolding atEntry fits
         by-scan h x e = rw (o, le-leb (length w) 131072 a, le-leb (length s) 65536 b, le-leb u (length w / 2) h, ← e)

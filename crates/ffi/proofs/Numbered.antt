@@ -1,0 +1,11 @@
+-- An exported function calls its operation and lists the answer's numbers: what it leaves is the operation's outcome, with the answer as numbers.
+-- Assumes nothing.
+use mathlib.Core.Path.{_≡_, ap, _∙_}
+use mathlib.Core.List.{List}
+use Rattle.table.specs.Refusal.{Numbers}
+use Rattle.table.specs.Outcome.{Outcome, wholeOut}
+use Rattle.ffi.specs.Boundary.{listed, numbered}
+
+pub is-numbered : {A : Type 0} (numbers : A → Numbers) {a : A} {l w s b : List ℕ} {o : Outcome A}
+    → l ≡ listed (numbers a) → wholeOut a w s b ≡ o → wholeOut l w s b ≡ numbered numbers o
+is-numbered numbers {w = w} {s = s} {b = b} p q = ap (λ (x : List ℕ). wholeOut x w s b) p ∙ ap (numbered numbers) q

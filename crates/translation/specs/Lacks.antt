@@ -1,0 +1,29 @@
+-- What Translate lacks where it is refused, and what it had where it gives a node. Assumes nothing: these are definitions.
+use Prim.Native.Nat.{ℕ, _-_, _*_, _≤_, _<_}
+use mathlib.Core.Path.{_≡_}
+use mathlib.Core.Bool.{true}
+use mathlib.Core.List.{List}
+use mathlib.Core.Option.{none, some}
+use Rattle.calculus.specs.Tree.{size}
+use Rattle.calculus.specs.Term.{Term}
+use Rattle.calculus.specs.Bytes.{rule}
+use Rattle.calculus.specs.Abstraction.{ruleTree}
+use Rattle.table.specs.Nodes.{capacity}
+use Rattle.table.specs.Outcome.{Entered, zeros, frames, atEntry}
+use Rattle.table.specs.declared.Refusal.{Refusal}
+use Rattle.table.specs.declared.Refusal.the-variants.{Rule, Nodes, Frames}
+
+-- The refusal, and the stack as it is left: "5: bytes not a rule. 8: tree larger than the free nodes. 9: fewer than two frames for each node of the
+-- tree." (Operations, Translate), each met only where the checks before it were passed.
+pub data Lacks (w : List ℕ) (u : ℕ) (s b : List ℕ) : Refusal → List ℕ → Type 0 where
+  at-entry : {e : Refusal} → atEntry true w u s ≡ some e → Lacks w u s b e s
+  no-rule : Entered true w u s → rule b ≡ none → Lacks w u s b Rule s
+  no-nodes : Entered true w u s → {t : Term} → rule b ≡ some t → capacity w - u < size (ruleTree t) → Lacks w u s b Nodes (zeros s)
+  no-frames : Entered true w u s → {t : Term} → rule b ≡ some t → size (ruleTree t) ≤ capacity w - u → frames s < 2 * size (ruleTree t) → Lacks w u s b Frames (zeros s)
+
+-- What Translate had where it lays out the tree of the term t.
+pub record Has (w : List ℕ) (u : ℕ) (s b : List ℕ) (t : Term) : Type 0 where
+  pub entered : Entered true w u s
+  pub is-rule : rule b ≡ some t
+  pub nodes-enough : size (ruleTree t) ≤ capacity w - u
+  pub frames-enough : 2 * size (ruleTree t) ≤ frames s
