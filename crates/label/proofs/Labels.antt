@@ -13,6 +13,7 @@ use Rattle.table.specs.Outcome.{Outcome, whole, placed, atEntry, unless}
 use Rattle.table.specs.declared.Refusal.{Refusal}
 use Rattle.table.specs.declared.Refusal.the-variants.{Nodes}
 use Rattle.table.specs.declared.Refusal.the-variants as refusal
+use Rattle.table.specs.declared.Made.{Made}
 use Rattle.table.specs.declared.Made.the-variants.{Node, Refused}
 use Rattle.table.proofs.Words.{and-left, and-right}
 use Rattle.table.proofs.Trees.{Extends, extends-refl, extends-trans}

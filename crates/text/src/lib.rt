@@ -14,8 +14,8 @@ ghost use Rattle.ternary.specs.Write.{digits};
 ghost use Rattle.ternary.specs.Write as writing;
 ghost use Rattle.text.specs.Code.{leafDigit, forkDigit, digitWith, Stands, StandsSome, DigitSays, roomOf, FitsIn, ScanSays, LaidBy, TakesDigit, LaysText, laysAs};
 use checks::Checked;
-use table::Made;
 use nodes::NewNode;
+use table::Made;
 use table::Refusal;
 use ternary::Written;
 
