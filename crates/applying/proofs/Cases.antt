@@ -6,14 +6,14 @@ use mathlib.Core.List.{List}
 use mathlib.Core.Option.{Option, none, some}
 use native.Mathlib.Omega.{arith}
 use lib.Dec.{ltb, leb}
-use borrow.Author.Tests.{ltb-true}
+use borrow.Author.Tests.{ltb-true, lt-ltb}
 use Rattle.table.specs.Nodes.{sound}
 use Rattle.table.specs.Outcome.{whole, frames, fits, atEntry}
 use Rattle.table.specs.declared.Refusal.{Refusal}
 use Rattle.table.specs.declared.Refusal.the-variants.{Limits, Broken, Text, Rule, Packet, Steps, Nodes, Frames, Out}
 use Rattle.table.specs.declared.Refusal.the-variants as refusal
 use Rattle.table.proofs.Words.{and-left, and-right}
-use Rattle.table.proofs.Entry.{Entered, entered}
+use Rattle.table.proofs.Entry.{Entered, entered, enters}
 use Rattle.applying.specs.declared.Applied.the-variants.{Node, Refused}
 use Rattle.applying.specs.Machine.{uses}
 use Rattle.applying.specs.Apply.{settle, begin, applyNodes, apply}
@@ -79,3 +79,9 @@ ways w u s f n limit = go (atEntry (leb limit 1000000) w u s) refl (checked (leb
 -- an application begins in a good state
 pub good-begin : {own : Bool} {w : List ℕ} {u : ℕ} {s : List ℕ} {f n : ℕ} → Entered own w u s → f < u → n < u → Good (frames s) (begin w u f n)
 good-begin e h k = record { fine = e .table; function-in = h; argument-in = k; frames-in = tt; held-in = omega arith }
+
+-- on an entered table, with both nodes in use, Apply is what its inner definition says
+pub entered-apply : {w : List ℕ} {u : ℕ} {s : List ℕ} {f n limit : ℕ} → Entered (leb limit 1000000) w u s → f < u → n < u
+    → applyNodes w u s f n limit ≡ apply w u s f n limit
+unfolding apply
+entered-apply {u = u} {f = f} {n = n} e h k = rw (enters e, lt-ltb f u h, lt-ltb n u k)

@@ -113,6 +113,11 @@ module _ (w : List ℕ) (u : ℕ) (s l : List ℕ) where
       rw (enters (h .entered), some-readable (h .readable-as))
       (sym (room-laid w u s (length l) (mostPending l) t (omega arith) (h .frames-enough)))
 
+  -- on an entered table Read is what its inner definition says
+  pub entered-read : Entered true w u s → readTree w u s l (readable l) ≡ read w u s l
+  unfolding read
+  entered-read e = rw (enters e)
+
   -- "Digit p of n becomes node used + n − 1 − p": digit 0 is the node that is given.
   pub read-limits : (t : Tree) → ReadHas w u s l t → read w u s l .answer ≡ Node (u + length l - 1) (u + length l)
   read-limits t h = rw (← text-size (h .readable-as), read-lays t h) (laid-answer w u s t)

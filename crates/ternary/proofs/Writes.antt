@@ -170,6 +170,11 @@ module _ (w : List ℕ) (u : ℕ) (s : List ℕ) (i : ℕ) (o : List ℕ) where
           rw (b, ← c) k
       go (writes h r) = zero-one (cc)
 
+  -- on an entered table, with a node in use, Write is what its inner definition says
+  pub entered-write : Entered (leb (length o) 65535) w u s → i < u → writeTree w s o (treeAt w i) ≡ write w u s i o
+  unfolding write
+  entered-write e h = rw (enters e, lt-ltb i u h)
+
   -- On an entered table, with a node in use, a byte for each digit and a frame for each fork pending, no refusal comes.
   pub write-limits : WriteHas w u s i o → write w u s i o ≡ allWritten w s o (treeAt w i)
   unfolding write writeTree written

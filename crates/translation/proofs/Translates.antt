@@ -83,6 +83,11 @@ module _ (w : List ℕ) (u : ℕ) (s b : List ℕ) where
         go (refuses k r) = cc
         go (lays-out {t} h r) = zero-one (cc (laid-answer w u s (ruleTree t)))
 
+  -- on an entered table Translate is what its inner definition says
+  pub entered-translate : Entered true w u s → translateRule w u s (rule b) ≡ translate w u s b
+  unfolding translate
+  entered-translate e = rw (enters e)
+
   -- with a sound table, a rule, and room for its tree, Translate lays it out and gives its last node
   pub translate-lays : (t : Term) → Has w u s b t → translate w u s b ≡ laid w u s (ruleTree t)
   unfolding translate translateRule
