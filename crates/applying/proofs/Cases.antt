@@ -13,7 +13,7 @@ use Rattle.table.specs.Refusal.{number, clears}
 use Rattle.table.specs.declared.Refusal.{Refusal}
 use Rattle.table.specs.declared.Refusal.the-variants.{Limits, Broken}
 use Rattle.table.proofs.Words.{and-left, and-right}
-use Rattle.table.proofs.Entry.{Entered, entered}
+use Rattle.table.proofs.Entry.{Entered, entered, enters, entry-limits, entry-broken}
 use Rattle.applying.specs.declared.Applied.the-variants.{Refused}
 use Rattle.applying.specs.Machine.{uses}
 use Rattle.applying.specs.Apply.{settle, begin, apply}
@@ -48,6 +48,16 @@ unfolding clears number
 entry-keeps (too-long h) = refl
 entry-keeps (is-broken h k) = refl
 entry-keeps (not-in-use h k) = refl
+
+-- where the checks are passed, none of them refuses
+pub none-lacks : {w : List ℕ} {u : ℕ} {s : List ℕ} {f n limit : ℕ} {e : Refusal} → Entered (leb limit 1000000) w u s → f < u → n < u → EntryLacks w u s f n limit e → ⊥
+none-lacks {w} {u} {s} {limit = limit} i h k (too-long l) =
+    let z : _≡_ {A = ℕ} 0 1 = cc (enters i, entry-limits (leb limit 1000000) w u s l) in
+    omega arith
+none-lacks {w} {u} {s} {limit = limit} i h k (is-broken l m) =
+    let z : _≡_ {A = ℕ} 0 1 = cc (enters i, entry-broken (leb limit 1000000) w u s l m) in
+    omega arith
+none-lacks i h k (not-in-use l m) = m h k
 
 -- an application begins in a good state
 pub good-begin : {own : Bool} {w : List ℕ} {u : ℕ} {s : List ℕ} {f n : ℕ} → Entered own w u s → f < u → n < u → Good (frames s) (begin w u f n)

@@ -219,8 +219,10 @@ module _ {all : ℕ} {s : State} (g : Good all s) {y : Table} (fine : Sound y) (
   pub leads-before : TurnLeads (y .words) o k m ⊥ (turn all s)
       → Leads (y .words) s o (suc k) (cond (needsNode (rule (s .table .words) (s .function))) 1 0 + m)
   leads-before x =
-      rw (← same-rule (g .fine) since (s .function) (g .function-in),
-      ← rule-new (y .words) _ _ (tree-by fine (s .function) (omega (arith, g .function-in, since .up))))
+      rw (
+        ← same-rule (g .fine) since (s .function) (g .function-in),
+        ← rule-new (y .words) _ _ (tree-by fine (s .function) (omega (arith, g .function-in, since .up))),
+      )
       (before-use _ m (transport (turn-leads g fine since o k m kept) (said (y .words) o k m (turn all s) (λ e. absurd e) x)))
 
   pub leads-after : Leads (y .words) s o (suc k) m → (j : ℕ) × TurnLeads (y .words) o k j (Unit {0}) (turn all s)

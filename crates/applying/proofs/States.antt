@@ -243,6 +243,10 @@ uses-made all (suc k) s = go _ (turn all s) (use-grew all s (rule (s .table .wor
     go n (done p j) e r = e
     go n (stop c t) e r = e
 
+-- the nodes made had their places
+pub made-within : (k : ℕ) {all : ℕ} {s : State} → Good all s → s .table .used + made all k s ≤ capacity (s .table .words)
+made-within k {all} {s} g = let l = uses-later k g in omega (arith, uses-made all k s, l .fine .within, l .extends .kept .same-length)
+
 -- A run can be paused: at most a uses and then, from the state they left, at most b are at most a + b uses.
 pub uses-add : (all a b : ℕ) (s : State) → uses all (a + b) s ≡ after (uses all b) (uses all a s)
 unfolding uses after
