@@ -1,4 +1,4 @@
--- Laws of Label for callers: what a success gives, and what a refusal leaves. Assumes nothing.
+-- What a Label that gave a node says, for callers. Assumes nothing.
 use Prim.Native.Nat.{ℕ, _+_, _-_, _*_, _≤_, _<_}
 use mathlib.Core.Path.{_≡_, refl, sym, ap, ap₂, _∙_, subst}
 use mathlib.Core.Bool.{Bool, true, false, cond, _&&_}
@@ -117,19 +117,3 @@ module _ (w : List ℕ) (u f t v u′ : ℕ) where
           let n = entered true w u [] c in
           let g = from-checks (n .table) q in
           record { entry = n; rule-in = g .0; label-in = g .1; places = rw c (g .2); used-is = g .3 }
-
--- no refusal of Label changes a table word
-pub label-refused : (w : List ℕ) (u f t : ℕ) (e : Refusal) → label w u f t .answer ≡ Refused e → label w u f t .table ≡ w
-unfolding label placed
-label-refused w u f t e = go (atEntry true w u []) (ltb f u && ltb t u) (ltb (capacity w - u) 7)
-  where
-    z : Outcome Made
-    z = placed (nodes (record { words = w; used = u }) f t) []
-
-    go : (c : Option Refusal) (x y : Bool)
-        → unless c (λ e. whole (Refused e) w []) (cond x (cond y (whole (Refused Nodes) w []) z) (whole (Refused refusal.Node) w [])) .answer ≡ Refused e
-        → unless c (λ e. whole (Refused e) w []) (cond x (cond y (whole (Refused Nodes) w []) z) (whole (Refused refusal.Node) w [])) .table ≡ w
-    go (some c) x y q = refl
-    go none false y q = refl
-    go none true true q = refl
-    go none true false q = refused-made (sym q)

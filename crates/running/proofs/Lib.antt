@@ -1,6 +1,5 @@
 -- The theorems of Run; other crates cite them.
 pub mod Limit
-pub mod Grown
 pub mod Undone
 pub mod Outcomes
 pub mod Stages

@@ -8,13 +8,13 @@ use native.Mathlib.Omega.{arith}
 use lib.ListN.{length, length-replicate}
 use borrow.Author.Tests.{le-leb}
 use Rattle.calculus.specs.Tree.{Tree, size}
-use Rattle.calculus.specs.Rules.{Apply, ApplyAll, at-end, and-next}
+use Rattle.calculus.specs.Rules.{Apply, ApplyAll, at-end, and-next, newNodes, newNodesAll}
 use Rattle.calculus.specs.Term.{Term}
 use Rattle.calculus.specs.Bytes.{rule}
 use Rattle.calculus.specs.Abstraction.{ruleTree}
-use Rattle.calculus.proofs.Unique.{apply-unique}
+use Rattle.calculus.proofs.Unique.{apply-unique, newNodes-unique, newNodesAll-unique}
 use Rattle.table.specs.Nodes.{Table, capacity, sound, Sound, treeAt}
-use Rattle.table.specs.Outcome.{zeros}
+use Rattle.table.specs.Outcome.{Outcome, zeros}
 use Rattle.table.specs.declared.Refusal.{Refusal}
 use Rattle.table.specs.declared.Refusal.the-variants.{Nodes, Frames}
 use Rattle.table.specs.declared.Made.{Made}
@@ -29,19 +29,20 @@ use Rattle.ternary.proofs.OneText.{zero-one, length-text}
 use Rattle.ternary.proofs.Reading.{some-readable, read-refused, read-lacks, read-gives}
 use Rattle.ternary.proofs.Writes.{write-case}
 use Rattle.translation.specs.Translate.{translate}
-use Rattle.translation.proofs.Translates.{translate-gives, translate-refused}
-use Rattle.translation.proofs.Lacks.{Lacks, translate-lacks}
+use Rattle.translation.proofs.Translates.{translate-gives, translate-lacks, translate-refused}
+use Rattle.translation.specs.Lacks.{Lacks}
 use Rattle.applying.specs.Apply.{apply}
 use Rattle.applying.specs.declared.Applied.{Applied}
 use Rattle.applying.specs.declared.Applied.the-variants as applied
 use Rattle.applying.proofs.Follows.{apply-follows}
 use Rattle.applying.proofs.Complete.{steps-used-up}
 use Rattle.fields.specs.Packet.{Packet}
-use Rattle.running.specs.Run.{Whole, stopped, afterMade, afterApplied, afterWritten, writes, applies, reads, stages}
+use Rattle.running.specs.Run.{stopped, afterMade, afterApplied, afterWritten, writes, applies, reads, stages}
+use Rattle.running.specs.Claims.{Fit, total, nodesBy, ReadStops, no-nodes, no-frames, later, ApplyStops, Stops, translate-nodes, translate-frames, in-read, in-apply, in-write}
+use Rattle.running.specs.declared.Ran.{Ran}
 use Rattle.running.specs.declared.Ran.the-variants.{Refused}
 use Rattle.running.proofs.Undone.{Back, back-same, back-cleared, apply-halts}
-use Rattle.running.proofs.Grown.{apply-grown}
-use Rattle.running.proofs.Outcomes.{Fit, total, Count, ReadStops, no-nodes, no-frames, later, Stops, translate-nodes, translate-frames, in-read, in-apply, in-write, Staged, stops, ends}
+use Rattle.running.proofs.Outcomes.{Staged, stops, ends}
 
 -- Between two stages: the table z, whose words were found as w with no node in use, and the stack y, lent as s.
 record Stands (w s : List ℕ) (z : Table) (y : List ℕ) : Type 0 where
@@ -66,6 +67,11 @@ apply-further : {f g h N : Tree} {Ns : List Tree} {a b : ℕ} → ApplyAll f Ns 
 apply-further at-end x = subst (ApplyAll _ _ _) (omega arith) (and-next x at-end)
 apply-further (and-next y z) x = subst (ApplyAll _ _ _) (omega arith) (and-next y (apply-further z x))
 
+further-new : {f g h N : Tree} {Ns : List Tree} {a b : ℕ} (x : ApplyAll f Ns g a) (y : Apply g N h b) → newNodesAll (apply-further x y) ≡ newNodesAll x + newNodes y
+unfolding newNodesAll
+further-new at-end x = newNodesAll-unique refl (apply-further at-end x) (and-next x at-end) ∙ omega arith
+further-new (and-next y z) x = newNodesAll-unique refl (apply-further (and-next y z) x) (and-next y (apply-further z x)) ∙ omega (arith, further-new z x)
+
 -- the applications before one that does not end in time take their steps first
 in-time : {f g N r : Tree} {before : List Tree} (after : List Tree) {a j : ℕ} (limit : ℕ) → ApplyAll f before g a → a ≤ limit
     → ((h : Tree) (b : ℕ) → Apply g N h b → limit - a < b) → ApplyAll f (before ++ (N ∷ after)) r j → limit < j
@@ -82,11 +88,11 @@ record Applying (w s : List ℕ) (p : Packet) (t : Term) (z : Table) (y : List �
   root : Has z v tree
   so-far : ApplyAll (ruleTree t) before tree k
   within-limit : k ≤ p .limit
-  count : Count p t k (z .used)
+  used-is : z .used ≡ nodesBy p t so-far
 
 module _ {w s o : List ℕ} (fit : Fit w s o) (p : Packet) (t : Term) (args : List Tree) where
-  enter : {z : Table} {y : List ℕ} → Stands w s z y → {own : Bool} → own ≡ true → Entered own (z .words) (z .used) y
-  enter st e = record { table = st .fine; stack = omega (arith, fit .stack, st .stack); owned = e }
+  enter : {z : Table} {y : List ℕ} → Stands w s z y → {within : Bool} → within ≡ true → Entered within (z .words) (z .used) y
+  enter st e = record { table = st .fine; stack = omega (arith, fit .stack, st .stack); limits-kept = e }
 
   -- a stage was refused: every node made since Run's entry is cleared, and the stack
   refuse : {z : Table} {y : List ℕ} → Stands w s z y → {e : Refusal} {m : ℕ} {x : List ℕ} (v : List ℕ) → Stops w s o p t args e m → Back z m x → length v ≡ length s
@@ -108,7 +114,7 @@ module _ {w s o : List ℕ} (fit : Fit w s o) (p : Packet) (t : Term) (args : Li
       lacked (WriteLacks.no-node f h) = absurd (omega (arith, a .root .inside))
       lacked (WriteLacks.no-room f h x) = (
         zeros-length _ y refl ∙ st .stack,
-        in-write (a .so-far) (a .within-limit) (rw (a .root .tree, st .stack) at x) (a .count),
+        in-write (a .so-far) (a .within-limit) (rw (a .root .tree, st .stack) at x) (a .used-is),
       )
 
       go : WriteCase (z .words) (z .used) y v o (write.write (z .words) (z .used) y v o)
@@ -121,7 +127,7 @@ module _ {w s o : List ℕ} (fit : Fit w s o) (p : Packet) (t : Term) (args : Li
             within-limit = a .within-limit;
             fine = st .fine;
             extends = st .extends;
-            count = a .count;
+            used-is = a .used-is;
             room = omega (arith, length-text (a .tree), ap size (a .root .tree), h .bytes-enough);
           }) refl)
 
@@ -145,20 +151,23 @@ module _ {w s o : List ℕ} (fit : Fit w s o) (p : Packet) (t : Term) (args : Li
             → Staged w s o p t args (afterApplied (z .used) o r (λ w′ u′ s′ v′ j. applies ns (p .limit) w′ u′ s′ o v′ (k + j)) b)
         go (applied.Node v′ u′ j) e on =
             let q = apply-follows (z .words) (z .used) y v n (p .limit - k) v′ u′ j e in
+            let d : Apply (a .tree) x (treeAt (r .table) v′) j = rw (a .root .tree, h .tree) at (q .applies) in
             on (record { words = r .table; used = u′ }) (r .stack) v′ (k + j) (before ++ (x ∷ [])) (all-stay (st .fine) (q .extends .kept) hs)
             (record {
               stands = record { fine = q .fine; extends = extends-trans (st .extends) (q .extends); stack = zeros-length _ y (q .stack) ∙ st .stack };
               tree = treeAt (r .table) v′;
               root = record { inside = q .inside; tree = refl };
-              so-far = apply-further (a .so-far) (rw (a .root .tree, h .tree) at (q .applies));
+              so-far = apply-further (a .so-far) d;
               within-limit = omega (arith, q .within-limit, a .within-limit);
-              count = record { least = omega (arith, q .extends .kept .up, a .count .least); most = omega (arith, a .count .most, apply-grown (z .words) (z .used) y v n (p .limit - k) v′ u′ j e) };
+              used-is = omega (arith, q .used-is, a .used-is, newNodes-unique (a .root .tree) (h .tree) (q .applies) d, further-new (a .so-far) d);
             })
             (m ∙ sym (append-assoc before (x ∷ []) xs))
         go (applied.Refused e) q on =
             let b = apply-halts (z .words) (z .used) y v n (p .limit - k) e (enter st (le-leb (p .limit - k) 1000000 (omega arith))) (a .root .inside) (h .inside) q in
-            refuse st (r .stack)
-            (in-apply (record {
+            let d : ApplyAll (ruleTree t) before (treeAt (z .words) v) k = rw (a .root .tree) (a .so-far) in
+            let i : z .used ≡ nodesBy p t d = omega (arith, a .used-is, newNodesAll-unique refl (a .so-far) d) in
+            let x : ApplyStops w s p t args e =
+            record {
               before = before;
               after = xs;
               table = z;
@@ -166,22 +175,24 @@ module _ {w s o : List ℕ} (fit : Fit w s o) (p : Packet) (t : Term) (args : Li
               argument = n;
               k = k;
               fine = st .fine;
-              extends = st .extends;
+              same-length = st .extends .kept .same-length;
+              beyond = st .extends .beyond;
               function-in = a .root .inside;
               argument-in = h .inside;
               arguments-are = rw (h .tree) m;
-              so-far = rw (a .root .tree) (a .so-far);
+              so-far = d;
               within-limit = a .within-limit;
-              lacking = rw (← st .stack) (b .lacking);
+              used-is = i;
+              halts = rw (← st .stack) (b .halts);
               no-tree = λ c d. in-time xs (p .limit) (a .so-far) (a .within-limit)
                   (λ g i f. steps-used-up (z .words) (z .used) y v n (p .limit - k) (q ∙ ap applied.Refused c) (rw (← a .root .tree, ← h .tree) at f)) (rw m at d);
-            }) (record { least = omega (arith, a .count .least, b .back .up); most = omega (arith, a .count .most, a .within-limit, b .most) }))
-            (b .back) (zeros-length _ y (b .stack) ∙ st .stack)
+            } in
+            refuse st (r .stack) (in-apply x (rw (← st .stack) (omega (arith, i)))) (b .back) (zeros-length _ y (b .stack) ∙ st .stack)
 
   -- each text is read: the nodes have the texts' trees, and each digit is a node
   reads-staged : (ls : List (List ℕ)) (xs : List Tree) → map readable ls ≡ map some xs → {z : Table} {y : List ℕ} → Stands w s z y
       → ((e : Refusal) (m : ℕ) → ReadStops w s (z .used) ls e m → Stops w s o p t args e m)
-      → (next : List ℕ → List ℕ → ℕ → List ℕ → Whole)
+      → (next : List ℕ → List ℕ → ℕ → List ℕ → Outcome Ran)
       → ((ns : List ℕ) (z′ : Table) (y′ : List ℕ) → Stands w s z′ y′ → Kept z z′ → HasAll z′ ns xs → z′ .used ≡ z .used + total ls
       → Staged w s o p t args (next ns (z′ .words) (z′ .used) y′))
       → Staged w s o p t args (reads ls (z .words) (z .used) y o next)
@@ -202,14 +213,14 @@ module _ {w s o : List ℕ} (fit : Fit w s o) (p : Packet) (t : Term) (args : Li
       same = ap (λ (n : ℕ). n / 2) (st .extends .kept .same-length)
 
       lacked : {e : Refusal} {y′ : List ℕ} → ReadLacks (z .words) (z .used) y l e y′ → (length y′ ≡ length s) × Stops w s o p t args e (z .used)
-      lacked (ReadLacks.at-entry q) = zero-one (cc (enters (enter st {own = true} refl)))
+      lacked (ReadLacks.at-entry q) = zero-one (cc (enters (enter st {within = true} refl)))
       lacked (ReadLacks.no-text f h) = zero-one (cc)
       lacked (ReadLacks.no-nodes f a h) = (zeros-length _ y refl ∙ st .stack, stop Nodes (z .used) (no-nodes (omega arith)))
       lacked (ReadLacks.no-frames f a h k) = (zeros-length _ y refl ∙ st .stack, stop Frames (z .used) (no-frames (omega arith) (omega (arith, st .stack))))
 
       go : (a : Made) → r .answer ≡ a
           → ((z : Table) (y : List ℕ) → Stands w s z y → ((e : Refusal) (m : ℕ) → ReadStops w s (z .used) ls e m → Stops w s o p t args e m)
-          → (next : List ℕ → List ℕ → ℕ → List ℕ → Whole)
+          → (next : List ℕ → List ℕ → ℕ → List ℕ → Outcome Ran)
           → ((ns : List ℕ) (z′ : Table) (y′ : List ℕ) → Stands w s z′ y′ → Kept z z′ → HasAll z′ ns xs → z′ .used ≡ z .used + total ls
           → Staged w s o p t args (next ns (z′ .words) (z′ .used) y′))
           → Staged w s o p t args (reads ls (z .words) (z .used) y o next))
@@ -230,7 +241,7 @@ module _ {w s o : List ℕ} (fit : Fit w s o) (p : Packet) (t : Term) (args : Li
 
   -- "Then Translate, Read of each argument, Apply in order under one step limit, Write, each with its 7 to 10."
   pub stages-staged : rule (p .rule) ≡ some t → map readable (p .arguments) ≡ map some args → p .limit ≤ 1000000 → Staged w s o p t args (stages w s o p)
-  unfolding stages afterMade sound
+  unfolding stages afterMade sound newNodesAll
   stages-staged q texts limited = go (r .answer) refl
     where
       r : Rattle.table.specs.Outcome.Outcome Made
@@ -243,7 +254,7 @@ module _ {w s o : List ℕ} (fit : Fit w s o) (p : Packet) (t : Term) (args : Li
       st = record { fine = record { short = fit .table; within = omega arith; unbroken = refl }; extends = extends-refl empty; stack = refl }
 
       lacked : {e : Refusal} {y : List ℕ} → Lacks w 0 s (p .rule) e y → (length y ≡ length s) × Stops w s o p t args e 0
-      lacked (Lacks.at-entry q) = zero-one (cc (enters (enter st {own = true} refl)))
+      lacked (Lacks.at-entry q) = zero-one (cc (enters (enter st {within = true} refl)))
       lacked (Lacks.no-rule f h) = zero-one (cc)
       lacked (Lacks.no-nodes f {t = t′} a h) = let b : t′ ≡ t = cc in (zeros-length _ s refl, translate-nodes (rw (← b) (omega arith)))
       lacked (Lacks.no-frames f {t = t′} a h k) =
@@ -269,7 +280,7 @@ module _ {w s o : List ℕ} (fit : Fit w s o) (p : Packet) (t : Term) (args : Li
             root = stays (c .fine) k (has c);
             so-far = at-end;
             within-limit = omega arith;
-            count = record { least = omega arith; most = omega arith };
+            used-is = omega arith;
           }) refl)
       go (made.Refused e) f =
           let a = lacked (translate-lacks w 0 s (p .rule) e f) in

@@ -129,7 +129,7 @@ module _ {nodes : List ℕ} {count limit : ℕ} {o w₀ : List ℕ} {u₀ : ℕ}
 
     module _ {a : Applied} {z y : List ℕ} (e : whole a z y ≡ applyNodes w u s v (getD nodes i 0) (limit - k)) where
       is-apply : whole a z y ≡ apply w u s v (getD nodes i 0) (limit - k)
-      is-apply = e ∙ entered-apply (entered-by (p .ready) (le-leb (limit - k) 1000000 (omega (arith, p .limited)))) (p .function-in) argument-in
+      is-apply = e ∙ entered-apply (limit - k) (entered-by (p .ready) (le-leb (limit - k) 1000000 (omega (arith, p .limited)))) (p .function-in) argument-in
 
       pub applies-stop : {x : Outcome Ran} {c : Refusal} → a ≡ applied.Refused c → x ≡ stopped c z u y o → x ≡ applies (take count nodes) limit w₀ u₀ s₀ o v₀ 0
       unfolding applies afterApplied
