@@ -1,11 +1,11 @@
 -- An application that never ends: λx.xx on itself. Assumes nothing.
 use Prim.Native.Nat.{ℕ}
 use mathlib.Core.Path.{_≡_, refl}
-use mathlib.Core.List.{List, [], _∷_}
+use mathlib.Core.List.{[], _∷_}
 use mathlib.Core.Option.{some}
 use Rattle.calculus.specs.Tree.{Tree, leaf, stem, fork}
 use Rattle.calculus.specs.Rules.{Apply, by-leaf, by-stem, by-drop, by-spread}
-use Rattle.calculus.specs.Term.{Term, app, abs, var}
+use Rattle.calculus.specs.Term.{app, abs, var}
 use Rattle.calculus.specs.Bytes.{bytes, abstraction, application, argument, parse, whole, rule}
 use Rattle.calculus.specs.Abstraction.{bracket, translate, grown, treeOf, ruleTree}
 
