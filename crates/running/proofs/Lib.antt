@@ -5,6 +5,7 @@ pub mod Outcomes
 pub mod Stages
 pub mod Checks
 pub mod Refused
+pub mod Packets
 pub mod Direct
 pub mod Empty
 pub mod Complete

@@ -1,8 +1,7 @@
 -- Translate lays its nodes as Read would. Assumes nothing.
-use Prim.Native.Nat.{ℕ, _+_}
+use Prim.Native.Nat.{ℕ}
 use mathlib.Core.Path.{_≡_, refl, sym, ap, _∙_}
 use mathlib.Core.List.{List}
-use mathlib.Core.Option.{some}
 use Rattle.calculus.specs.Tree.{Tree}
 use Rattle.calculus.specs.Abstraction.{ruleTree}
 use Rattle.table.specs.Outcome.{Outcome, laid, placed}
