@@ -110,13 +110,13 @@ unfolding left leftBy size
     bytes.bytes bytes.abstraction bytes.application bytes.argument bytes.parse bytes.whole bytes.rule
     abstraction.bracket abstraction.translate abstraction.grown abstraction.treeOf abstraction.ruleTree
     nodes.broken nodes.sound nodes.branches nodes.treeTo nodes.make nodes.lay
-    outcome.fits outcome.atEntry outcome.stopped outcome.placed outcome.laid
+    outcome.fits outcome.atEntry outcome.stopped outcome.placed outcome.laid outcome.lacking outcome.laidWithin
     refusal.number refusal.refusedNumbers refusal.madeNumbers
-    text.takeLeaf text.takeStem text.takeFork text.takeDigit text.pending text.single text.treeOf text.count text.mostPending
+    text.takeLeaf text.takeStem text.takeFork text.takeDigit text.pending text.single text.treeOf text.manyPending text.mostPending
     ternary.readable ternary.readTree ternary.read
     translation.translateRule translation.translate
     machine.forkRule machine.rule machine.resume machine.grow machine.hold machine.useRule machine.turn machine.after machine.uses
-    applying.settle applying.apply applying.appliedNumbers
+    applying.settle applying.applyNodes applying.apply applying.appliedNumbers
 computed =
     record {
       answers = refl;

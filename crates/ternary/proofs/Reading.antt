@@ -42,7 +42,6 @@ some-readable {l} r = rw (le-leb (length l) 65535 (r .short)) (r .tree-of)
 text-size : {l : List ℕ} {t : Tree} → Readable l t → size t ≡ length l
 text-size {l} {t} r = sym (length-text t) ∙ ap length (sym (whole-text l t (r .tree-of)))
 
-
 module _ (w : List ℕ) (u : ℕ) (s l : List ℕ) where
   -- Read's outcome is of one kind or the other.
   pub read-case : ReadCase w u s l (read w u s l)
