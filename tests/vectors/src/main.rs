@@ -45,17 +45,62 @@ const TABLE: usize = 131_072;
 const STACK: usize = 65_535;
 const OUT: usize = 65_535;
 
+/// Why a command ends early: an operation is refused, or the line is no command.
+enum Early {
+    Refused(usize),
+    NoCommand,
+}
+
+type Answer<T> = Result<T, Early>;
+
+fn accepted(numbers: Numbers) -> Answer<Numbers> {
+    match numbers.refusal {
+        0 => Ok(numbers),
+        refusal => Err(Early::Refused(refusal)),
+    }
+}
+
+// ---- fields of a line
+
+fn number(field: &str) -> Answer<usize> {
+    field.parse().map_err(|_| Early::NoCommand)
+}
+
+/// The bytes of a field in hexadecimal.
+fn bytes_of(field: &str) -> Answer<Vec<u8>> {
+    let byte = |pair: &[u8]| {
+        let pair = std::str::from_utf8(pair).ok().filter(|p| p.len() == 2)?;
+        u8::from_str_radix(pair, 16).ok()
+    };
+    let bytes: Option<Vec<u8>> = field.as_bytes().chunks(2).map(byte).collect();
+    bytes.ok_or(Early::NoCommand)
+}
+
+/// The bytes of several fields, each in hexadecimal or N*BYTES.
+fn gathered(fields: &[&str]) -> Answer<Vec<u8>> {
+    let mut bytes = Vec::new();
+    for field in fields {
+        match field.split_once('*') {
+            Some((count, part)) => bytes.extend(bytes_of(part)?.repeat(number(count)?)),
+            None => bytes.extend(bytes_of(field)?),
+        }
+    }
+    Ok(bytes)
+}
+
+/// The first words or bytes of memory, if there are so many.
+fn lend<T>(memory: &mut [T], n: usize) -> Answer<&mut [T]> {
+    memory.get_mut(..n).ok_or(Early::NoCommand)
+}
+
+// ---- operations and what is shown of their answers
+
 /// The memory that is lent, with room for one node, one frame and one byte above what is allowed. A
 /// command finds in it what the ones before it left.
 struct Memory {
     table: Vec<u32>,
     stack: Vec<u32>,
     out: Vec<u8>,
-}
-
-/// What Write gives is ASCII digits, or else a difference.
-fn string(bytes: &[u8]) -> String {
-    String::from_utf8_lossy(bytes).into_owned()
 }
 
 impl Memory {
@@ -67,323 +112,215 @@ impl Memory {
         }
     }
 
+    /// Read of a text into an empty table, with the nodes and frames of two fields.
+    fn read(&mut self, nodes: &str, frames: &str, text: &[u8]) -> Answer<Numbers> {
+        let table = lend(&mut self.table, 2 * number(nodes)?)?;
+        let stack = lend(&mut self.stack, 3 * number(frames)?)?;
+        accepted(lazvorn::read(table, 0, stack, text))
+    }
+
     /// A tree into the table, with ample room: a text, or a rule, x and its bytes.
-    fn load(&mut self, used: usize, tree: &str) -> Option<Numbers> {
+    fn load(&mut self, used: usize, tree: &str) -> Answer<Numbers> {
         let (table, stack) = (&mut self.table[..TABLE], &mut self.stack[..STACK]);
-        Some(match tree.strip_prefix('x') {
+        accepted(match tree.strip_prefix('x') {
             Some(rule) => lazvorn::translate(table, used, stack, &bytes_of(rule)?),
             None => lazvorn::read(table, used, stack, tree.as_bytes()),
         })
     }
 
-    /// Write with ample room.
-    fn write(&mut self, used: usize, node: usize) -> Numbers {
-        let (table, stack) = (&self.table[..TABLE], &mut self.stack[..STACK]);
-        lazvorn::write(table, used, stack, node, &mut self.out[..OUT])
+    /// Several trees into an empty table: their nodes, and the count of used nodes.
+    fn load_all(&mut self, trees: &[&str]) -> Answer<(Vec<usize>, usize)> {
+        let (mut nodes, mut used) = (Vec::new(), 0);
+        for tree in trees {
+            let made = self.load(used, tree)?;
+            nodes.push(made.node);
+            used = made.used;
+        }
+        Ok((nodes, used))
     }
 
-    /// A node's text, or a minus and the number where Write is refused.
+    /// The first out bytes as they are.
+    fn shown(&self, digits: usize) -> String {
+        String::from_utf8_lossy(&self.out[..digits]).into_owned()
+    }
+
+    /// A node's text, written with ample room; a minus and the number where Write is refused.
     fn text(&mut self, used: usize, node: usize) -> String {
-        match self.write(used, node) {
-            Numbers {
-                refusal: 0, digits, ..
-            } => string(&self.out[..digits]),
-            refused => format!("-{}", refused.refusal),
+        let (table, stack) = (&self.table[..TABLE], &mut self.stack[..STACK]);
+        let written = lazvorn::write(table, used, stack, node, &mut self.out[..OUT]);
+        match written.refusal {
+            0 => self.shown(written.digits),
+            refusal => format!("-{refusal}"),
         }
     }
 
-    /// The line of an operation that makes a node.
-    fn made(&mut self, made: Numbers) -> String {
-        let Numbers {
-            refusal,
-            node,
-            used,
-            ..
-        } = made;
-        if refusal != 0 {
-            return refusal.to_string();
-        }
-        format!("0 {node} {used} {}", self.text(used, node))
+    /// The line of an operation that makes nodes.
+    fn made(&mut self, made: Numbers) -> Answer<String> {
+        let made = accepted(made)?;
+        let text = self.text(made.used, made.node);
+        Ok(format!("0 {} {} {text}", made.node, made.used))
     }
 
     /// The line of Write.
-    fn written(&self, written: Numbers) -> String {
-        let Numbers {
-            refusal, digits, ..
-        } = written;
-        if refusal != 0 {
-            return refusal.to_string();
-        }
-        format!("0 {digits} {}", string(&self.out[..digits]))
+    fn written(&self, written: Numbers) -> Answer<String> {
+        let digits = accepted(written)?.digits;
+        Ok(format!("0 {digits} {}", self.shown(digits)))
     }
 
-    /// The line of Apply; `before` nodes were in use.
-    fn applied(&mut self, before: usize, applied: Numbers) -> String {
-        let Numbers {
-            refusal,
-            node,
-            used,
-            steps,
-            ..
-        } = applied;
-        if refusal != 0 {
-            return refusal.to_string();
-        }
-        format!("0 {steps} {} {}", used - before, self.text(used, node))
-    }
-
-    /// Read of a text into an empty table of so many nodes, with so many frames.
-    fn read(&mut self, nodes: usize, frames: usize, text: &[u8]) -> Option<Numbers> {
-        let table = self.table.get_mut(..2 * nodes)?;
-        let stack = self.stack.get_mut(..3 * frames)?;
-        Some(lazvorn::read(table, 0, stack, text))
+    /// The line of Apply, where `before` nodes were in use.
+    fn applied(&mut self, before: usize, applied: Numbers) -> Answer<String> {
+        let applied = accepted(applied)?;
+        let text = self.text(applied.used, applied.node);
+        Ok(format!(
+            "0 {} {} {text}",
+            applied.steps,
+            applied.used - before
+        ))
     }
 }
 
-/// The bytes of a field in hexadecimal.
-fn bytes_of(field: &str) -> Option<Vec<u8>> {
-    let pairs = field.as_bytes().chunks(2);
-    pairs
-        .map(|pair| match pair {
-            [_, _] => u8::from_str_radix(std::str::from_utf8(pair).ok()?, 16).ok(),
-            _ => None,
-        })
-        .collect()
+// ---- commands
+
+fn repeat_command(m: &mut Memory, nodes: &str, frames: &str, text: &str) -> Answer<String> {
+    let read = m.read(nodes, frames, text.as_bytes())?;
+    let written = m.text(read.used, read.node);
+    let same = usize::from(written == text);
+    Ok(format!(
+        "0 {} {} {} {same}",
+        read.node,
+        read.used,
+        written.len()
+    ))
 }
 
-/// The bytes of several fields, each in hexadecimal or N*BYTES.
-fn gathered(fields: &[&str]) -> Option<Vec<u8>> {
-    let mut bytes = Vec::new();
-    for field in fields {
-        match field.split_once('*') {
-            Some((count, part)) => bytes.extend(bytes_of(part)?.repeat(count.parse().ok()?)),
-            None => bytes.extend(bytes_of(field)?),
-        }
+fn write_command(m: &mut Memory, frames: &str, out: &str, text: &str) -> Answer<String> {
+    let read = m.load(0, text)?;
+    let stack = lend(&mut m.stack, 3 * number(frames)?)?;
+    let out = lend(&mut m.out, number(out)?)?;
+    let written = lazvorn::write(&m.table[..TABLE], read.used, stack, read.node, out);
+    m.written(written)
+}
+
+/// Node 0 is a leaf, and each further one a fork of the node before it twice.
+fn share_command(m: &mut Memory, levels: &str, frames: &str, out: &str) -> Answer<String> {
+    let last = number(levels)?;
+    for (i, word) in lend(&mut m.table, 2 * (last + 1))?.iter_mut().enumerate() {
+        *word = (i / 2) as u32;
     }
-    Some(bytes)
+    let stack = lend(&mut m.stack, 3 * number(frames)?)?;
+    let out = lend(&mut m.out, number(out)?)?;
+    let written = lazvorn::write(&m.table[..TABLE], last + 1, stack, last, out);
+    Ok(format!("0 {}", accepted(written)?.digits))
 }
 
-fn number(field: &str) -> Option<usize> {
-    field.parse().ok()
+fn translate_command(m: &mut Memory, nodes: &str, frames: &str, rule: &[u8]) -> Answer<String> {
+    let table = lend(&mut m.table, 2 * number(nodes)?)?;
+    let stack = lend(&mut m.stack, 3 * number(frames)?)?;
+    let made = lazvorn::translate(table, 0, stack, rule);
+    m.made(made)
 }
 
-/// The line of command c: a text read and written back, too long to be shown.
-fn repeated(memory: &mut Memory, nodes: usize, frames: usize, text: &[u8]) -> Option<String> {
-    let read = memory.read(nodes, frames, text)?;
-    let Numbers {
-        refusal,
-        node,
-        used,
-        ..
-    } = read;
-    if refusal != 0 {
-        return Some(refusal.to_string());
-    }
-    let digits = memory.write(used, node).digits;
-    let same = usize::from(&memory.out[..digits] == text);
-    Some(format!("0 {node} {used} {digits} {same}"))
-}
-
-/// The line of command s: node 0 is a leaf, and each further one a fork of the node before it twice.
-fn shared(memory: &mut Memory, levels: usize, frames: usize, out: usize) -> Option<String> {
-    for node in 0..=levels {
-        memory
-            .table
-            .get_mut(2 * node..2 * node + 2)?
-            .fill(node as u32);
-    }
-    let (table, stack) = (&memory.table[..TABLE], memory.stack.get_mut(..3 * frames)?);
-    let out = memory.out.get_mut(..out)?;
-    let written = lazvorn::write(table, levels + 1, stack, levels, out);
-    Some(match written.refusal {
-        0 => format!("0 {}", written.digits),
-        refusal => refusal.to_string(),
-    })
-}
-
-/// The trees of a command, loaded with ample room: their nodes and the count of used nodes. An error
-/// is the line of the first that is refused.
-fn loaded(memory: &mut Memory, trees: &[&str]) -> Option<Result<(Vec<usize>, usize), String>> {
-    let (mut nodes, mut used) = (Vec::new(), 0);
-    for tree in trees {
-        let made = memory.load(used, tree)?;
-        if made.refusal != 0 {
-            return Some(Err(made.refusal.to_string()));
-        }
-        nodes.push(made.node);
-        used = made.used;
-    }
-    Some(Ok((nodes, used)))
-}
-
-/// The line of command a.
-fn applied(
-    memory: &mut Memory,
-    free: usize,
-    frames: usize,
-    limit: usize,
-    trees: &[&str],
-) -> Option<String> {
-    let (nodes, before) = match loaded(memory, trees)? {
-        Ok(loaded) => loaded,
-        Err(line) => return Some(line),
-    };
-    let (first, arguments) = nodes.split_first()?;
+fn apply_command(m: &mut Memory, room: [&str; 3], trees: &[&str]) -> Answer<String> {
+    let [free, frames, limit] = [number(room[0])?, number(room[1])?, number(room[2])?];
+    let (nodes, before) = m.load_all(trees)?;
+    let (first, arguments) = nodes.split_first().ok_or(Early::NoCommand)?;
     let mut all = Numbers {
         node: *first,
         used: before,
         ..Numbers::default()
     };
     for argument in arguments {
-        let table = memory.table.get_mut(..2 * (before + free))?;
-        let stack = memory.stack.get_mut(..3 * frames)?;
+        let table = lend(&mut m.table, 2 * (before + free))?;
+        let stack = lend(&mut m.stack, 3 * frames)?;
         let left = limit - all.steps;
-        let one = lazvorn::apply(table, all.used, stack, all.node, *argument, left);
-        all = Numbers {
-            steps: all.steps + one.steps,
-            ..one
-        };
-        if all.refusal != 0 {
-            break;
-        }
+        let one = accepted(lazvorn::apply(
+            table, all.used, stack, all.node, *argument, left,
+        ))?;
+        let steps = all.steps + one.steps;
+        all = Numbers { steps, ..one };
     }
-    Some(memory.applied(before, all))
+    m.applied(before, all)
 }
 
-/// The line of command l.
-fn labelled(memory: &mut Memory, free: usize, rule: &str, label: &str) -> Option<String> {
-    let (nodes, used) = match loaded(memory, &[rule, label])? {
-        Ok(loaded) => loaded,
-        Err(line) => return Some(line),
-    };
-    let table = memory.table.get_mut(..2 * (used + free))?;
+fn label_command(m: &mut Memory, free: &str, rule: &str, label: &str) -> Answer<String> {
+    let (nodes, used) = m.load_all(&[rule, label])?;
+    let table = lend(&mut m.table, 2 * (used + number(free)?))?;
     let made = lazvorn::label(table, used, nodes[0], nodes[1]);
-    Some(memory.made(made))
+    m.made(made)
 }
 
-/// The line of command u.
-fn in_words(
-    memory: &mut Memory,
-    letter: &str,
-    numbers: [usize; 3],
-    words: &[&str],
-) -> Option<String> {
-    for (word, field) in memory.table.iter_mut().zip(words) {
-        *word = field.parse().ok()?;
+fn words_command(m: &mut Memory, letter: &str, rest: &[&str]) -> Answer<String> {
+    let [used, a, b, words @ ..] = rest else {
+        return Err(Early::NoCommand);
+    };
+    let (used, a, b) = (number(used)?, number(a)?, number(b)?);
+    let table = lend(&mut m.table, words.len())?;
+    for (word, field) in table.iter_mut().zip(words) {
+        *word = field.parse().map_err(|_| Early::NoCommand)?;
     }
-    let [used, a, b] = numbers;
-    let table = &mut memory.table[..words.len()];
-    let (stack, out) = (&mut memory.stack[..STACK], &mut memory.out[..OUT]);
-    Some(match letter {
-        "r" => {
-            let made = lazvorn::read(table, used, stack, b"0");
-            memory.made(made)
-        }
-        "t" => {
-            let made = lazvorn::translate(table, used, stack, &[2, 0]);
-            memory.made(made)
-        }
-        "l" => {
-            let made = lazvorn::label(table, used, a, b);
-            memory.made(made)
-        }
-        "w" => {
-            let written = lazvorn::write(table, used, stack, a, out);
-            memory.written(written)
-        }
-        "a" => {
-            let applied = lazvorn::apply(table, used, stack, a, b, 100);
-            memory.applied(used, applied)
-        }
-        _ => return None,
-    })
+    let (stack, out) = (&mut m.stack[..STACK], &mut m.out[..OUT]);
+    let answer = match letter {
+        "r" => lazvorn::read(table, used, stack, b"0"),
+        "w" => lazvorn::write(table, used, stack, a, out),
+        "t" => lazvorn::translate(table, used, stack, &[2, 0]),
+        "a" => lazvorn::apply(table, used, stack, a, b, 100),
+        "l" => lazvorn::label(table, used, a, b),
+        _ => return Err(Early::NoCommand),
+    };
+    match letter {
+        "w" => m.written(answer),
+        "a" => m.applied(used, answer),
+        _ => m.made(answer),
+    }
 }
 
-/// The line of command p.
-fn ran(memory: &mut Memory, packet: &[u8]) -> String {
-    let (table, stack) = (&mut memory.table[..16_384], &mut memory.stack[..12_288]);
-    let ran = lazvorn::run(table, stack, &mut memory.out[..16_384], packet);
-    let Numbers {
-        refusal,
-        used,
-        steps,
-        digits,
-        ..
-    } = ran;
-    let text = match refusal {
-        0 => string(&memory.out[..digits]),
+fn packet_command(m: &mut Memory, packet: &[u8]) -> String {
+    let (table, stack) = (&mut m.table[..16_384], &mut m.stack[..12_288]);
+    let ran = lazvorn::run(table, stack, &mut m.out[..16_384], packet);
+    let text = match ran.refusal {
+        0 => m.shown(ran.digits),
         _ => "-".to_string(),
     };
-    format!("{refusal} {steps} {used} {text}")
+    format!("{} {} {} {text}", ran.refusal, ran.steps, ran.used)
 }
 
-/// The line that a command gives, or none where it is no command.
-fn answer(memory: &mut Memory, command: &str) -> Option<String> {
-    // A blank at the end parts nothing: the last field is then empty, and what it stands for too.
-    let mut fields: Vec<&str> = command.split(' ').collect();
-    if fields.last() == Some(&"") {
-        fields.pop();
-    }
-    Some(match fields[..] {
+fn command(m: &mut Memory, fields: &[&str]) -> Answer<String> {
+    match *fields {
         ["r", nodes, frames, ref text @ ..] if text.len() < 2 => {
-            let text = text.first().unwrap_or(&"").as_bytes();
-            let made = memory.read(number(nodes)?, number(frames)?, text)?;
-            memory.made(made)
+            let made = m.read(nodes, frames, text.concat().as_bytes())?;
+            m.made(made)
         }
         ["b", nodes, frames, ref bytes @ ..] => {
-            let text = gathered(bytes)?;
-            let made = memory.read(number(nodes)?, number(frames)?, &text)?;
-            memory.made(made)
+            let made = m.read(nodes, frames, &gathered(bytes)?)?;
+            m.made(made)
         }
         ["c", nodes, frames, count, part, tail] => {
-            let text = part.repeat(number(count)?) + tail;
-            repeated(memory, number(nodes)?, number(frames)?, text.as_bytes())?
+            repeat_command(m, nodes, frames, &(part.repeat(number(count)?) + tail))
         }
-        ["w", frames, out, text] => {
-            let Numbers {
-                refusal,
-                node,
-                used,
-                ..
-            } = memory.load(0, text)?;
-            if refusal != 0 {
-                return Some(refusal.to_string());
-            }
-            let stack = memory.stack.get_mut(..3 * number(frames)?)?;
-            let out = memory.out.get_mut(..number(out)?)?;
-            let written = lazvorn::write(&memory.table[..TABLE], used, stack, node, out);
-            memory.written(written)
-        }
-        ["s", levels, frames, out] => {
-            shared(memory, number(levels)?, number(frames)?, number(out)?)?
-        }
+        ["w", frames, out, text] => write_command(m, frames, out, text),
+        ["s", levels, frames, out] => share_command(m, levels, frames, out),
         ["t", nodes, frames, ref bytes @ ..] => {
-            let rule = gathered(bytes)?;
-            let table = memory.table.get_mut(..2 * number(nodes)?)?;
-            let stack = memory.stack.get_mut(..3 * number(frames)?)?;
-            let made = lazvorn::translate(table, 0, stack, &rule);
-            memory.made(made)
+            translate_command(m, nodes, frames, &gathered(bytes)?)
         }
-        ["a", nodes, frames, limit, ref trees @ ..] => applied(
-            memory,
-            number(nodes)?,
-            number(frames)?,
-            number(limit)?,
-            trees,
-        )?,
-        ["l", nodes, rule, label] => labelled(memory, number(nodes)?, rule, label)?,
-        ["u", letter, used, a, b, ref words @ ..] => in_words(
-            memory,
-            letter,
-            [number(used)?, number(a)?, number(b)?],
-            words,
-        )?,
-        ["p", ref bytes @ ..] => {
-            let packet = gathered(bytes)?;
-            ran(memory, &packet)
+        ["a", nodes, frames, limit, ref trees @ ..] => {
+            apply_command(m, [nodes, frames, limit], trees)
         }
-        _ => return None,
-    })
+        ["l", nodes, rule, label] => label_command(m, nodes, rule, label),
+        ["u", letter, ref rest @ ..] => words_command(m, letter, rest),
+        ["p", ref bytes @ ..] => Ok(packet_command(m, &gathered(bytes)?)),
+        _ => Err(Early::NoCommand),
+    }
+}
+
+/// The line that a line of the script gives, or none where it is no command. A blank at its end parts
+/// nothing from nothing.
+fn answer(memory: &mut Memory, line: &str) -> Option<String> {
+    let fields: Vec<&str> = line.strip_suffix(' ').unwrap_or(line).split(' ').collect();
+    match command(memory, &fields) {
+        Ok(line) => Some(line),
+        Err(Early::Refused(number)) => Some(number.to_string()),
+        Err(Early::NoCommand) => None,
+    }
 }
 
 /// How many commands a script has, and each difference from the lines expected.
