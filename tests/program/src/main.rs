@@ -107,9 +107,9 @@ fn papers_lines() -> Vec<Case> {
 
 /// "Anything else, or more than 16,384 bytes, is 6."
 ///
-/// A packet of 16,384 bytes cannot succeed: of a rule whose tree Translate can lay, and of texts that
-/// the nodes can hold, no packet is so long. The one here has the rule λx. Δ, in 5 bytes, and a text of
-/// 16,376 digits, in 3 + 16,376: one whole tree, for which the 8,189 nodes that are free are too few,
+/// A packet of 16,384 bytes cannot succeed: a rule takes at most 3 + 4,096 bytes, texts that 8,192 nodes
+/// can hold at most 8 * 3 + 8,192, and the limit 7. The one here has the rule λx. Δ, in 5 bytes, and a
+/// text of 16,376 digits, in 3 + 16,376: one whole tree, for which the 8,189 free nodes are too few,
 /// which is 8. A program that takes in fewer bytes finds the text cut short, which is 6.
 fn lengths() -> Vec<Case> {
     let longest = packet(LEAF, &[&stems(16_376)]);
