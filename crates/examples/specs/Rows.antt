@@ -15,6 +15,7 @@ use Rattle.applying.specs.declared.Applied.{Applied}
 use Rattle.applying.specs.declared.Applied.the-variants as applied
 use Rattle.fields.specs.Packet.{fieldBytes, argumentBytes}
 use Rattle.running.specs.Run as run
+use Rattle.running.specs.declared.Ran.{Ran}
 
 -- digits as the bytes of a text
 abbrev pub ascii : List ℕ → List ℕ
@@ -82,7 +83,7 @@ lengths (l ∷ ls) = length l + lengths ls
 unfoldable pub taken : Program → List (List ℕ) → ℕ
 taken p ls = madeNumbers 0 (place (replicate 80 0) p .answer) .used + lengths ls
 
-unfoldable pub runLine : run.Whole → Numbers → Line
+unfoldable pub runLine : Outcome Ran → Numbers → Line
 runLine o n = record { refusal = n .refusal; steps = n .steps; nodes = n .used; digits = take (n .digits) (o .out) }
 
 unfoldable pub line : Input → Line
