@@ -69,7 +69,14 @@ pub struct Built {
 
 // Writes to the stack from `w` on the words of the translation of the term that starts at `at`. The table's words from `q` on, those of nodes
 // that are not made yet, take each abstraction until it is copied over its body.
-pub fn build(rule: &[u8], at: usize, stack: &mut [u32], w: usize, table: &mut [u32], q: usize) -> Built
+pub fn build(
+    rule: &[u8],
+    at: usize,
+    stack: &mut [u32],
+    w: usize,
+    table: &mut [u32],
+    q: usize,
+) -> Built
     requires { ⌜ BuildAt (now rule) at (now stack) w (now table) q ⌝ }
     ensures { λ r. ⌜ ((t : Term) → Holds (now (rule .entry)) at (bytes t)
         → Builds at w q t (r .next) (r .end) (now (stack .entry)) (now (stack .exit)) (now (table .entry)) (now (table .exit))) ⌝ }

@@ -1,6 +1,7 @@
--- From the rule's size and the room to Translate's outcome: one law for each way that its code goes. Assumes nothing.
+-- From the checks, the rule's size and the room to Translate's outcome: one law for each way that its code goes. Assumes nothing.
 use Prim.Native.Nat.{ℕ, _+_, _*_}
 use mathlib.Core.Path.{_≡_, sym, ap, _∙_}
+use mathlib.Core.Bool.{true}
 use mathlib.Core.List.{List, append-nil}
 use mathlib.Core.Option.{none, some}
 use native.Mathlib.Omega.{arith}
@@ -13,14 +14,15 @@ use Rattle.calculus.specs.Abstraction.{translate as translation, term, ruleTree
 use Rattle.calculus.proofs.Rule.{rule-exact}
 use Rattle.calculus.proofs.Size.{rule-tree, rule-size}
 use Rattle.table.specs.Nodes.{Placed, cleared, lay}
-use Rattle.table.specs.Outcome.{Outcome, whole, zeros, placed, laid, laidWithin}
+use Rattle.table.specs.Outcome.{Outcome, whole, zeros, atEntry, placed, laid, laidWithin}
 use Rattle.table.specs.declared.Refusal.the-variants.{Rule}
 use Rattle.table.specs.declared.Made.{Made}
 use Rattle.table.specs.declared.Made.the-variants.{Node, Refused}
 use Rattle.table.proofs.Words.{cleared-all}
+use Rattle.table.proofs.Entry.{check-passes}
 use Rattle.nodes.specs.Code.{placedBy}
 use Rattle.nodes.specs.declared.NewNode.{NewNode}
-use Rattle.translation.specs.Translate.{translateRule}
+use Rattle.translation.specs.Translate.{translateRule, translate}
 use Rattle.rule_size.proofs.Sizes.{Sized}
 use Rattle.bracket.specs.Words.{words, Holds, run, Builds}
 use Rattle.bracket.proofs.Stores.{stored}
@@ -28,8 +30,12 @@ use Rattle.bracket.proofs.Runs.{words-width}
 use Rattle.term.specs.Code.{PlaceAt}
 use Rattle.term.proofs.Laying.{lay-over}
 
--- 5, or 8, then 9, then the tree laid
 module _ (w : List ℕ) (u : ℕ) (s b : List ℕ) where
+  pub past-entry : {o : Outcome Made} → none ≡ atEntry true w u s → o ≡ translateRule w u s (rule b) → o ≡ translate w u s b
+  unfolding translate
+  past-entry h q = q ∙ check-passes _ _ h
+
+  -- 5, or 8, then 9, then the tree laid
   pub refused-rule : rule b ≡ none → whole (Refused Rule) w s ≡ translateRule w u s (rule b)
   unfolding translateRule
   refused-rule e = rw e

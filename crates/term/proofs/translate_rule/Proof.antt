@@ -1,63 +1,78 @@
+-- `term::translate_rule` meets its contract: 5, or 8 and 9 by the check for room, or the nodes that are made. Assumes nothing.
+use mathlib.Core.Path.{_∙_}
+use native.Mathlib.Omega.{arith}
+use Rattle.calculus.specs.Abstraction.{ruleTree}
+use Rattle.checks.proofs.Room.{no-room, has-room}
+use Rattle.rule_size.proofs.Sizes.{no-rule, sized}
+use Rattle.term.proofs.Outcomes.{refused-rule, of-rule}
 use borrow.Author.Needs.{needs}
 use Rattle.term.proofs.translate_rule.Statement.{statement}
 use Rattle.term.proofs.translate_rule.Tie as tie
-use Rattle.term.proofs.translate_rule.Reads as reads
-use Rattle.term.proofs.translate_rule.Lts as lts
-use Rattle.checks.proofs.check_room.Reads as check-room-reads
-use Rattle.rule_size.proofs.rule_size.Reads as rule-size-reads
-use Rattle.term.proofs.place.Reads as place-reads
 
--- src/lib.rt:68:9
 rule-size-requires : tie.Need-rule-size-requires
 rule-size-requires c κs = search needs
 
--- src/lib.rt:70:9
 returns : tie.Need-returns
-returns c = ?
+returns c = refused-rule _ _ _ _ (no-rule _ (c .before .rule-size .ensures) (c .if1 .taken))
 
--- src/lib.rt:72:62
 mul-check-room : tie.Need-mul-check-room
-mul-check-room c = ?
+mul-check-room c =
+    let k = sized _ (c .before .before .before .rule-size .ensures) (c .before .before .if1 .left) in
+    omega (arith, k .most)
 
--- src/lib.rt:72:9
 check-room-requires : tie.Need-check-room-requires
 check-room-requires c κs = search needs
 
--- src/lib.rt:74:26
 enum-known-room : tie.Need-enum-known-room
 enum-known-room c = search needs
 
--- src/lib.rt:75:34
 enum-told : tie.Need-enum-told
 enum-told c = search needs
 
--- src/lib.rt:75:28
 place-requires : tie.Need-place-requires
-place-requires c κs = ?
+place-requires c κs =
+    let c₁ = c .before .before .before .before .before .before in
+    let c₂ = c₁ .before .before .before in
+    let c₃ = c₂ .before .before .before .before .before in
+    let k = sized _ (c₂ .before .rule-size .ensures) (c₂ .if1 .left) in
+    let h = has-room _ _ _ _ _ (c₁ .check-room .ensures) (c .before .before .enum-told .given .1) (ruleTree (k .term)) in
+    record {
+      term = k .term;
+      is-rule = k .is-rule;
+      nodes = omega (arith, k .nodes, h .nodes-free);
+      frames = rw (h .same) (omega (arith, k .nodes, h .frames-free));
+      within = c₃ .pre .0 .within;
+      table = c₃ .pre .0 .short;
+      stack = rw (h .same) (c₃ .pre .1);
+    }
 
--- src/lib.rt:63:1
 same-length : tie.Need-same-length
 same-length c = search needs
 
--- src/lib.rt:63:1
 same-length-2 : tie.Need-same-length-2
 same-length-2 c = search needs
 
--- src/lib.rt:63:1
 returns-2 : tie.Need-returns-2
-returns-2 c = ?
+returns-2 c =
+    let c₁ = c .before .before .before .before .before in
+    let c₂ = c₁ .before .before .before in
+    let k = sized _ (c₂ .before .rule-size .ensures) (c₂ .if1 .left) in
+    of-rule _ _ _ _ k (no-room _ _ _ _ _ (c₁ .check-room .ensures) (c .before .room .given .1) (ruleTree (k .term)))
 
--- src/lib.rt:63:1
 same-length-3 : tie.Need-same-length-3
 same-length-3 c = search needs
 
--- src/lib.rt:63:1
 same-length-4 : tie.Need-same-length-4
 same-length-4 c = search needs
 
--- src/lib.rt:63:1
 returns-3 : tie.Need-returns-3
-returns-3 c = ?
+returns-3 c =
+    let c₁ = c .before .before .before .before in
+    let c₂ = c₁ .before .before .before .before .before .before .before in
+    let c₃ = c₂ .before .before .before in
+    let k = sized _ (c₃ .before .rule-size .ensures) (c₃ .if1 .left) in
+    let h = has-room _ _ _ _ _ (c₂ .check-room .ensures) (c₁ .before .before .before .enum-told .given .1) (ruleTree (k .term)) in
+    of-rule _ _ _ _ k (rw (h .same) at (c₁ .place .ensures (k .term) (k .is-rule)) ∙ h .laid-is)
 
 pub translate-rule-spec : {M : Type 1} → statement M
 translate-rule-spec =
