@@ -1,31 +1,26 @@
 -- Laws of Run's checks, one for each way that its code goes. Assumes nothing.
-use Prim.Native.Nat.{ℕ, zero, suc, _+_, _-_, _*_, _≤_, _<_}
-use mathlib.Core.Path.{_≡_, refl, sym, ap, _∙_}
-use mathlib.Core.Bool.{Bool, true, false, cond}
-use mathlib.Core.List.{List, [], _∷_, _++_, append-assoc, append-nil}
+use Prim.Native.Nat.{ℕ, _+_, _-_, _≤_, _<_}
+use mathlib.Core.Path.{_≡_, refl}
+use mathlib.Core.Bool.{Bool, true, false}
+use mathlib.Core.List.{List, [], _∷_}
 use mathlib.Core.Option.{Option, none, some}
 use native.Mathlib.Omega.{arith}
-use native.Mathlib.Numerals.{add-one}
-use lib.ListN.{length, getD, set, take, drop, length-take, drop-of-length-le}
-use lib.Seq.{drop-cons, getD-take, take-suc-set}
+use lib.ListN.{length}
 use borrow.Author.Tests.{lt-leb, le-leb}
 use Rattle.calculus.specs.Tree.{Tree}
 use Rattle.calculus.specs.Bytes.{rule}
-use Rattle.table.specs.Outcome as outcome
-use Rattle.table.specs.declared.Refusal.{Refusal}
+use Rattle.table.specs.Outcome.{wholeOut}
 use Rattle.table.specs.declared.Refusal.the-variants as refusal
-use Rattle.table.specs.declared.Made.{Made}
-use Rattle.table.specs.declared.Made.the-variants as made
-use Rattle.ternary.specs.Read.{read, readable, isSome}
-use Rattle.ternary.proofs.OneText.{zero-one}
-use Rattle.ternary.proofs.Reading.{read-gives}
-use Rattle.term.specs.Weight.{sizeOf}
-use Rattle.term.proofs.Outcomes.{no-rule, sized}
+use Rattle.ternary.specs.Read.{readable, isSome}
+use Rattle.table.proofs.Words.{zero-one}
+use Rattle.rule_size.specs.Weight.{sizeOf}
+use Rattle.rule_size.proofs.Sizes.{no-rule, sized}
 use Rattle.fields.specs.Packet.{Packet, packet}
 use Rattle.packet.specs.Code.{endAt, valueAt, Stand, valuesAt, formOf}
 use Rattle.packet.specs.declared.Form.the-variants as form
-use Rattle.packet.proofs.Parts.{Parts, packet-parts, Next, next-field, part-value}
-use Rattle.running.specs.declared.Ran.the-variants.{Text, Refused}
+use Rattle.packet.proofs.Parts.{Parts, next-field}
+use Rattle.running.specs.Run.{stages, allReadable, runPacket, lengthsFit, run}
+use Rattle.running.specs.declared.Ran.the-variants.{Refused}
 
 -- ---- the checks
 

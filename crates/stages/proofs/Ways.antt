@@ -12,7 +12,7 @@ use lib.Seq.{drop-cons, getD-take, take-suc-set, getD-set-same, getD-set-other}
 use lib.Dec.{leb, ltb}
 use borrow.Author.Tests.{le-leb, ltb-true, ltb-false}
 use Rattle.calculus.specs.Bytes.{rule}
-use Rattle.table.specs.Nodes.{Sound, cleared, treeAt}
+use Rattle.table.specs.Nodes.{Sound, sound, cleared, treeAt}
 use Rattle.table.specs.Outcome.{Outcome, Entered, whole, wholeOut}
 use Rattle.table.specs.declared.Refusal.{Refusal}
 use Rattle.table.specs.declared.Made.{Made}
@@ -58,6 +58,11 @@ written-not p n q = zero-one (cc)
 -- the words of the nodes in use are within the table
 pub in-table : {w : List ℕ} {u : ℕ} {s o : List ℕ} → Ready w u s o → u * 2 ≤ length w
 in-table r = omega (arith, r .fine .within)
+
+-- "with the table taken as empty": no node is in use, so none is broken
+pub empty-ready : {w s o : List ℕ} → length w ≤ 131072 → length s ≤ 65536 → length o ≤ 65535 → Ready w 0 s o
+unfolding sound
+empty-ready a b c = record { fine = record { short = a; within = omega arith; unbroken = refl }; stack = b; out = c }
 
 -- what the checks at entry ask holds
 entered-by : {within : Bool} {w : List ℕ} {u : ℕ} {s o : List ℕ} → Ready w u s o → within ≡ true → Entered within w u s

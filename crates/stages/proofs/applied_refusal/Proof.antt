@@ -1,7 +1,7 @@
--- `run::applied_refusal` meets its contract: an answer that is no refusal is not passed. Assumes nothing.
+-- `stages::applied_refusal` meets its contract: an answer that is no refusal is not passed. Assumes nothing.
 use borrow.Author.Needs.{needs}
-use Rattle.run.proofs.applied_refusal.Statement.{statement}
-use Rattle.run.proofs.applied_refusal.Tie as tie
+use Rattle.stages.proofs.applied_refusal.Statement.{statement}
+use Rattle.stages.proofs.applied_refusal.Tie as tie
 
 enum-known-applied : tie.Need-enum-known-applied
 enum-known-applied c = search needs

@@ -1,7 +1,7 @@
--- `run::made_refusal` meets its contract: an answer that is no refusal is not passed. Assumes nothing.
+-- `stages::made_refusal` meets its contract: an answer that is no refusal is not passed. Assumes nothing.
 use borrow.Author.Needs.{needs}
-use Rattle.run.proofs.made_refusal.Statement.{statement}
-use Rattle.run.proofs.made_refusal.Tie as tie
+use Rattle.stages.proofs.made_refusal.Statement.{statement}
+use Rattle.stages.proofs.made_refusal.Tie as tie
 
 enum-known-made : tie.Need-enum-known-made
 enum-known-made c = search needs

@@ -1,8 +1,8 @@
--- `run::stop` meets its contract. Assumes nothing.
-use Rattle.run.proofs.Ways.{is-stopped}
+-- `stages::stop` meets its contract. Assumes nothing.
+use Rattle.stages.proofs.Ways.{is-stopped}
 use borrow.Author.Needs.{needs}
-use Rattle.run.proofs.stop.Statement.{statement}
-use Rattle.run.proofs.stop.Tie as tie
+use Rattle.stages.proofs.stop.Statement.{statement}
+use Rattle.stages.proofs.stop.Tie as tie
 
 mul-clear : tie.Need-mul-clear
 mul-clear c = search needs

@@ -1,11 +1,11 @@
--- `run::write_outcome` meets its contract. Assumes nothing.
-use Rattle.run.proofs.Ways.{written-not, is-text, stops-write}
+-- `stages::write_outcome` meets its contract. Assumes nothing.
+use Rattle.stages.proofs.Ways.{written-not, in-table, is-text, stops-write}
 use borrow.Author.Needs.{needs}
-use Rattle.run.proofs.write_outcome.Statement.{statement}
-use Rattle.run.proofs.write_outcome.Tie as tie
+use Rattle.stages.proofs.write_outcome.Statement.{statement}
+use Rattle.stages.proofs.write_outcome.Tie as tie
 
-write-requires : tie.Need-write-requires
-write-requires c κs = search needs
+write-node-requires : tie.Need-write-node-requires
+write-node-requires c κs = ?
 
 enum-known-written : tie.Need-enum-known-written
 enum-known-written c = search needs
@@ -17,7 +17,7 @@ written-refusal-requires : tie.Need-written-refusal-requires
 written-refusal-requires c κs = written-not (c .before .before .enum-told .given .1)
 
 stop-requires : tie.Need-stop-requires
-stop-requires c κs = search needs
+stop-requires c κs = ?
 
 same-length : tie.Need-same-length
 same-length c = search needs
@@ -29,7 +29,7 @@ same-length-3 : tie.Need-same-length-3
 same-length-3 c = search needs
 
 returns : tie.Need-returns
-returns c = stops-write (c .before .before .before .before .before .before .before .before .before .before .before .before .before .before .before .before .before .before .before .before .before .args .table .now) (c .before .before .before .before .before .before .before .before .before .before .before .before .before .before .before .before .before .before .before .before .before .args .used) (c .before .before .before .before .before .before .before .before .before .before .before .before .before .before .before .before .before .before .before .before .before .args .stack .now) (c .before .before .before .before .before .before .before .before .before .before .before .before .before .before .before .before .before .before .before .before .before .args .out .now) (c .before .before .before .before .before .before .before .before .before .before .before .before .before .before .before .before .before .before .before .before .before .args .node) (c .before .before .before .before .before .before .before .before .before .before .before .before .before .before .before .before .before .before .before .before .before .args .steps) (c .before .before .before .before .before .before .before .before .before .before .before .before .before .before .write .ensures) (c .before .before .before .before .before .written-refusal .ensures) (c .before .before .before .before .stop .ensures _)
+returns c = stops-write _ (c .before .before .before .before .before .before .before .before .before .before .before .before .before .before .before .before .before .before .before .before .before .pre .0) (c .before .before .before .before .before .before .before .before .before .before .before .before .before .before .before .before .before .before .before .before .before .pre .1) (c .before .before .before .before .before .before .before .before .before .before .before .before .before .before .write-node .ensures) (c .before .before .before .before .before .written-refusal .ensures) (c .before .before .before .before .stop .ensures _)
 
 same-length-4 : tie.Need-same-length-4
 same-length-4 c = search needs
@@ -41,13 +41,13 @@ same-length-6 : tie.Need-same-length-6
 same-length-6 c = search needs
 
 returns-2 : tie.Need-returns-2
-returns-2 c = is-text (c .before .before .before .before .before .before .before .before .before .before .before .before .before .before .args .table .now) (c .before .before .before .before .before .before .before .before .before .before .before .before .before .before .args .used) (c .before .before .before .before .before .before .before .before .before .before .before .before .before .before .args .stack .now) (c .before .before .before .before .before .before .before .before .before .before .before .before .before .before .args .out .now) (c .before .before .before .before .before .before .before .before .before .before .before .before .before .before .args .node) (c .before .before .before .before .before .before .before .before .before .before .before .before .before .before .args .steps) (c .before .before .before .before .before .before .before .write .ensures) (c .before .written .given .1)
+returns-2 c = is-text _ (c .before .before .before .before .before .before .before .before .before .before .before .before .before .before .pre .0) (c .before .before .before .before .before .before .before .before .before .before .before .before .before .before .pre .1) (c .before .before .before .before .before .before .before .write-node .ensures) (c .before .written .given .1)
 
 pub write-outcome-spec : {M : Type 1} → statement M
 write-outcome-spec =
     tie.close
     (tie.spec
-    write-requires
+    write-node-requires
     enum-known-written
     enum-told
     written-refusal-requires

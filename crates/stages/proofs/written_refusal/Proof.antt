@@ -1,7 +1,7 @@
--- `run::written_refusal` meets its contract: an answer that is no refusal is not passed. Assumes nothing.
+-- `stages::written_refusal` meets its contract: an answer that is no refusal is not passed. Assumes nothing.
 use borrow.Author.Needs.{needs}
-use Rattle.run.proofs.written_refusal.Statement.{statement}
-use Rattle.run.proofs.written_refusal.Tie as tie
+use Rattle.stages.proofs.written_refusal.Statement.{statement}
+use Rattle.stages.proofs.written_refusal.Tie as tie
 
 enum-known-written : tie.Need-enum-known-written
 enum-known-written c = search needs
