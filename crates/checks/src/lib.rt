@@ -90,7 +90,13 @@ pub fn check(within: bool, table: &[u32], used: usize, stack: &[u32]) -> Checked
 }
 
 // Room for a tree of so many nodes that takes so many frames: 8, then 9. A refusal clears the stack.
-pub fn check_room(table: &[u32], used: usize, stack: &mut [u32], nodes: usize, held: usize) -> Checked
+pub fn check_room(
+    table: &[u32],
+    used: usize,
+    stack: &mut [u32],
+    nodes: usize,
+    held: usize,
+) -> Checked
     requires { ⌜ used ≤ capacity (now table) ⌝ }
     ensures { λ r. ⌜ checkedWith r (now (stack .exit)) ≡ roomFor (now (table .entry)) used (now (stack .entry)) nodes held ⌝ }
 {

@@ -9,8 +9,8 @@ ghost use Rattle.nodes.specs.Code.{placedBy};
 ghost use Rattle.label.specs.Label as labelling;
 ghost use Rattle.label.specs.Code.{constantNodes, labelNodes};
 use checks::Checked;
-use table::Made;
 use nodes::NewNode;
+use table::Made;
 use table::Refusal;
 
 // The nodes of KK: a leaf, its stem, and the fork of these.

@@ -21,8 +21,8 @@ ghost use Rattle.term.specs.Words.{words, Holds, Written, BracketAt, Bui
 ghost use Rattle.term.specs.Weight.{unit, measured, sizeOf};
 ghost use Rattle.translation.specs.Translate.{translateRule, translate};
 use checks::Checked;
-use table::Made;
 use nodes::NewNode;
+use table::Made;
 use table::Refusal;
 
 // What reading a term gives: the place after it, 0 where no term is, and what it counts towards the size of the tree.
