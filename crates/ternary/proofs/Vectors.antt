@@ -6,7 +6,7 @@ use mathlib.Core.List.{List, [], _∷_, map}
 use Rattle.calculus.specs.Tree.{Tree, leaf, stem, fork}
 use Rattle.table.specs.Refusal.{number, refusedNumbers}
 use Rattle.table.specs.declared.Refusal.the-variants.{Frames, Out}
-use Rattle.ternary.specs.Text.{text, takeLeaf, takeStem, takeFork, takeDigit, pending, count, mostPending}
+use Rattle.ternary.specs.Text.{text, takeLeaf, takeStem, takeFork, takeDigit, pending, manyPending, mostPending}
 use Rattle.ternary.specs.Write.{Room, left, lacks, next, spend, digits, writtenNumbers}
 use Rattle.ternary.specs.declared.Written.the-variants.{Digits, Refused}
 
@@ -29,5 +29,5 @@ one-frame = (refl, refl)
 -- trees pending are counted after each digit: 0 needs one frame, 10 one, 200 two, 20200 two, 22000 three
 pub most : map (λ (t : Tree). mostPending (text t)) (leaf ∷ stem leaf ∷ fork leaf leaf ∷ fork leaf (fork leaf leaf) ∷ fork (fork leaf leaf) leaf ∷ [])
     ≡ 1 ∷ 1 ∷ 2 ∷ 2 ∷ 3 ∷ []
-unfolding text mostPending pending takeDigit takeLeaf takeStem takeFork count
+unfolding text mostPending pending takeDigit takeLeaf takeStem takeFork manyPending
 most = refl

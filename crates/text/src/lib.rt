@@ -8,7 +8,7 @@ ghost use lib.ListN.{length, getD, set, drop};
 ghost use Rattle.calculus.specs.Tree.{Tree};
 ghost use Rattle.table.specs.Nodes.{Table, Sound, treeAt};
 ghost use Rattle.table.specs.Outcome.{whole, frames};
-ghost use Rattle.ternary.specs.Text.{text, count, takeDigit, treeOf};
+ghost use Rattle.ternary.specs.Text.{text, manyPending, takeDigit, treeOf};
 ghost use Rattle.ternary.specs.Read.{readable, isSome, read, readTree};
 ghost use Rattle.ternary.specs.Write.{digits};
 ghost use Rattle.ternary.specs.Write as writing;
@@ -28,7 +28,7 @@ pub enum Scanned {
 // How many trees are pending after the digit c where n were pending before it; 0 where it lacks a branch or is no digit.
 fn pending_after(c: u8, n: usize) -> usize
     requires { ⌜ n < 4294967296 ⌝ }
-    ensures { λ r. ⌜ ((ts : List Tree) → length ts ≡ n → r ≡ count (takeDigit c (some ts))) ⌝ }
+    ensures { λ r. ⌜ ((ts : List Tree) → length ts ≡ n → r ≡ manyPending (takeDigit c (some ts))) ⌝ }
 {
     if c == 48 {
         return n + 1;
