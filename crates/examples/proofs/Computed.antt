@@ -25,7 +25,7 @@ unfolding rows size
     nodes.broken nodes.sound nodes.branches nodes.treeTo nodes.make nodes.lay
     outcome.fits outcome.atEntry outcome.stopped outcome.placed outcome.laid
     refusal.number refusal.refusedNumbers refusal.madeNumbers
-    text.text text.takeLeaf text.takeStem text.takeFork text.takeDigit text.pending text.single text.treeOf text.count text.mostPending
+    text.text text.takeLeaf text.takeStem text.takeFork text.takeDigit text.pending text.single text.treeOf text.manyPending text.mostPending
     read.readable read.readTree read.read
     write.next write.spend write.digits write.written write.write
     translate.translateRule translate.translate

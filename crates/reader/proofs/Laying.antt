@@ -12,7 +12,7 @@ use borrow.Author.Tests.{eqb-true, eqb-false, eq-eqb, ne-eqb}
 use Rattle.calculus.specs.Tree.{Tree, leaf, stem, fork, size}
 use Rattle.table.specs.Nodes.{Table, Placed, make, lay}
 use Rattle.table.proofs.Making.{make-node, lay-used, lay-node}
-use Rattle.ternary.specs.Text.{text, takeLeaf, takeStem, takeFork, takeDigit, pending, single, treeOf, count, mostPending}
+use Rattle.ternary.specs.Text.{text, takeLeaf, takeStem, takeFork, takeDigit, pending, single, treeOf, manyPending, mostPending}
 use Rattle.ternary.specs.Text.{texts}
 use Rattle.reader.specs.Code.{layAll, nodesOf, Holds, LaidBy, TakesDigit, LaysText, laysAs}
 use Rattle.ternary.proofs.OneText.{zero-one, pending-texts, length-text}
@@ -186,10 +186,10 @@ unfolding pending
 none-pending {ts} e = let q : [] ≡ ts = cc in rw (← q) (omega arith)
 
 pub pending-most : (l : List ℕ) (i : ℕ) {ts : List Tree} → pending (drop i l) ≡ some ts → length ts ≤ mostPending l
-unfolding mostPending count
+unfolding mostPending manyPending
 pending-most [] zero e = none-pending e
 pending-most [] (suc i) e = none-pending e
-pending-most (c ∷ l) zero {ts} e = let k : count (pending (c ∷ l)) ≡ length ts = ap count e in omega arith
+pending-most (c ∷ l) zero {ts} e = let k : manyPending (pending (c ∷ l)) ≡ length ts = ap manyPending e in omega arith
 pending-most (c ∷ l) (suc i) e = omega (arith, pending-most l i e)
 
 -- the one tree of a whole text

@@ -10,38 +10,38 @@ use lib.Seq.{drop-cons, drop-length}
 use lib.Dec.{eqb}
 use borrow.Author.Tests.{eqb-true, eq-eqb, ne-eqb}
 use Rattle.calculus.specs.Tree.{Tree}
-use Rattle.ternary.specs.Text.{takeLeaf, takeStem, takeFork, takeDigit, pending, single, treeOf, count, mostPending}
+use Rattle.ternary.specs.Text.{takeLeaf, takeStem, takeFork, takeDigit, pending, single, treeOf, manyPending, mostPending}
 use Rattle.reader.specs.declared.Scanned.the-variants.{Whole, Broken}
 use Rattle.reader.specs.Code.{ScanSays}
 use Rattle.ternary.proofs.OneText.{zero-one}
 
 -- what a stem's and a fork's digit make of the number of trees pending
-stem-count : (ts : List Tree) → length ts ≡ count (takeStem ts)
-unfolding takeStem count
+stem-count : (ts : List Tree) → length ts ≡ manyPending (takeStem ts)
+unfolding takeStem manyPending
 stem-count [] = refl
 stem-count (p ∷ ts) = refl
 
-fork-count : (ts : List Tree) → length ts - 1 ≡ count (takeFork ts)
-unfolding takeFork count
+fork-count : (ts : List Tree) → length ts - 1 ≡ manyPending (takeFork ts)
+unfolding takeFork manyPending
 fork-count [] = refl
 fork-count (p ∷ []) = refl
 fork-count (p ∷ (q ∷ ts)) = omega arith
 
 module _ (c n : ℕ) (ts : List Tree) (many : length ts ≡ n) where
-  pub after-leaf : c ≡ 48 → n + 1 ≡ count (takeDigit c (some ts))
-  unfolding takeDigit takeLeaf count
+  pub after-leaf : c ≡ 48 → n + 1 ≡ manyPending (takeDigit c (some ts))
+  unfolding takeDigit takeLeaf manyPending
   after-leaf e = rw (eq-eqb c 48 e) (omega arith)
 
-  pub after-stem : (c ≡ 48 → ⊥) → c ≡ 49 → n ≡ count (takeDigit c (some ts))
+  pub after-stem : (c ≡ 48 → ⊥) → c ≡ 49 → n ≡ manyPending (takeDigit c (some ts))
   unfolding takeDigit
   after-stem a e = rw (ne-eqb c 48 a, eq-eqb c 49 e) (sym many ∙ stem-count ts)
 
-  pub after-fork : (c ≡ 48 → ⊥) → (c ≡ 49 → ⊥) → c ≡ 50 → n - 1 ≡ count (takeDigit c (some ts))
+  pub after-fork : (c ≡ 48 → ⊥) → (c ≡ 49 → ⊥) → c ≡ 50 → n - 1 ≡ manyPending (takeDigit c (some ts))
   unfolding takeDigit
   after-fork a b e = rw (ne-eqb c 48 a, ne-eqb c 49 b, eq-eqb c 50 e) (omega (arith, fork-count ts))
 
-  pub after-none : (c ≡ 48 → ⊥) → (c ≡ 49 → ⊥) → (c ≡ 50 → ⊥) → 0 ≡ count (takeDigit c (some ts))
-  unfolding takeDigit count
+  pub after-none : (c ≡ 48 → ⊥) → (c ≡ 49 → ⊥) → (c ≡ 50 → ⊥) → 0 ≡ manyPending (takeDigit c (some ts))
+  unfolding takeDigit manyPending
   after-none a b d = rw (ne-eqb c 48 a, ne-eqb c 49 b, ne-eqb c 50 d)
 
 -- a digit that is taken leaves a tree
@@ -67,11 +67,11 @@ left-digit c ts {us} = go (eqb c 48) (eqb c 49) (eqb c 50)
     go false false false e = zero-one (cc)
 
 -- and at most one more than before
-digit-most : (c : ℕ) (ts : List Tree) → count (takeDigit c (some ts)) ≤ length ts + 1
-unfolding takeDigit takeLeaf count
+digit-most : (c : ℕ) (ts : List Tree) → manyPending (takeDigit c (some ts)) ≤ length ts + 1
+unfolding takeDigit takeLeaf manyPending
 digit-most c ts = go (eqb c 48) (eqb c 49) (eqb c 50)
   where
-    go : (x y z : Bool) → count (cond x (takeLeaf ts) (cond y (takeStem ts) (cond z (takeFork ts) none))) ≤ length ts + 1
+    go : (x y z : Bool) → manyPending (cond x (takeLeaf ts) (cond y (takeStem ts) (cond z (takeFork ts) none))) ≤ length ts + 1
     go true y z = omega arith
     go false true z = omega (arith, stem-count ts)
     go false false true = omega (arith, fork-count ts)
@@ -106,23 +106,23 @@ module _ {l : List ℕ} {i n most : ℕ} (s : Counts l i n most) (h : 0 < i) whe
   unfolding pending
   taken = ap pending (drop-more l i h (s .inside)) ∙ rw (s .pends)
 
-  module _ (m : ℕ) (e : m ≡ count (takeDigit (getD l (i - 1) 0) (some (s .trees)))) where
+  module _ (m : ℕ) (e : m ≡ manyPending (takeDigit (getD l (i - 1) 0) (some (s .trees)))) where
     pub counts-more : (m ≡ 0 → ⊥) → (most′ : ℕ) → most′ ≡ max m most → Counts l (i - 1) m most′
-    unfolding mostPending count
+    unfolding mostPending manyPending
     counts-more z most′ b = go (takeDigit (getD l (i - 1) 0) (some (s .trees))) taken e
       where
-        go : (o : Option (List Tree)) → pending (drop (i - 1) l) ≡ o → m ≡ count o → Counts l (i - 1) m most′
+        go : (o : Option (List Tree)) → pending (drop (i - 1) l) ≡ o → m ≡ manyPending o → Counts l (i - 1) m most′
         go none p q = absurd (z q)
         go (some us) p q =
-            let d : mostPending (drop (i - 1) l) ≡ max (count (pending (drop (i - 1) l))) (mostPending (drop i l)) = rw (drop-more l i h (s .inside)) in
-            let k : count (pending (drop (i - 1) l)) ≡ m = ap count p ∙ sym q in
+            let d : mostPending (drop (i - 1) l) ≡ max (manyPending (pending (drop (i - 1) l))) (mostPending (drop i l)) = rw (drop-more l i h (s .inside)) in
+            let k : manyPending (pending (drop (i - 1) l)) ≡ m = ap manyPending p ∙ sym q in
             record { inside = omega (arith, s .inside); trees = us; pends = p; many = sym q; few = omega (arith, s .few, s .many, digit-most (getD l (i - 1) 0) (s .trees)); most-is = omega (arith, s .most-is) }
 
     pub counts-broken : m ≡ 0 → treeOf l ≡ none
-    unfolding treeOf single count
+    unfolding treeOf single manyPending
     counts-broken z = go (takeDigit (getD l (i - 1) 0) (some (s .trees))) refl e
       where
-        go : (o : Option (List Tree)) → takeDigit (getD l (i - 1) 0) (some (s .trees)) ≡ o → m ≡ count o → single (pending l) ≡ none
+        go : (o : Option (List Tree)) → takeDigit (getD l (i - 1) 0) (some (s .trees)) ≡ o → m ≡ manyPending o → single (pending l) ≡ none
         go none p q = rw (pending-none l (i - 1) (omega (arith, s .inside)) (taken ∙ p))
         go (some us) p q = absurd (omega (arith, left-digit (getD l (i - 1) 0) (s .trees) p))
 

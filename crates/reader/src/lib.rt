@@ -8,7 +8,7 @@ ghost use lib.ListN.{length, set};
 ghost use Rattle.calculus.specs.Tree.{Tree};
 ghost use Rattle.table.specs.Nodes.{Table, Sound};
 ghost use Rattle.table.specs.Outcome.{whole};
-ghost use Rattle.ternary.specs.Text.{count, takeDigit};
+ghost use Rattle.ternary.specs.Text.{manyPending, takeDigit};
 ghost use Rattle.ternary.specs.Read.{readable, isSome, read, readTree};
 ghost use Rattle.reader.specs.Code.{ScanSays, LaidBy, TakesDigit, LaysText, laysAs};
 use checks::Checked;
@@ -25,7 +25,7 @@ enum Scanned {
 // How many trees are pending after the digit c where n were pending before it; 0 where it lacks a branch or is no digit.
 fn pending_after(c: u8, n: usize) -> usize
     requires { ⌜ n < 4294967296 ⌝ }
-    ensures { λ r. ⌜ ((ts : List Tree) → length ts ≡ n → r ≡ count (takeDigit c (some ts))) ⌝ }
+    ensures { λ r. ⌜ ((ts : List Tree) → length ts ≡ n → r ≡ manyPending (takeDigit c (some ts))) ⌝ }
 {
     if c == 48 {
         return n + 1;

@@ -14,7 +14,7 @@ use Rattle.table.specs.declared.Refusal.the-variants.{Steps, Nodes, Frames}
 use Rattle.table.proofs.Trees.{Extends}
 use Rattle.ternary.specs.Text.{text, mostPending}
 use Rattle.ternary.specs.Write.{lacks}
-use Rattle.ternary.proofs.Writes.{Spent}
+use Rattle.ternary.specs.Held.{Spent}
 use Rattle.applying.specs.Apply.{begin}
 use Rattle.fields.specs.Packet.{Packet}
 use Rattle.running.specs.Run.{Whole, whole}

@@ -17,8 +17,8 @@ use Rattle.table.specs.declared.Refusal.the-variants.{Limits, Broken, Node, Tex
 use Rattle.table.specs.declared.Refusal.the-variants as refusal
 use Rattle.table.proofs.Words.{length-cleared, cleared-inside, cleared-beyond}
 use Rattle.ternary.specs.Write.{lacks}
+use Rattle.ternary.specs.Held.{Spent, no-out, no-frame}
 use Rattle.ternary.proofs.OneText.{zero-one}
-use Rattle.ternary.proofs.Writes.{Spent, no-out, no-frame}
 use Rattle.applying.proofs.Cases.{says-by}
 use Rattle.fields.specs.Packet.{Packet, packet}
 use Rattle.running.specs.Run.{Whole, run, ranNumbers}

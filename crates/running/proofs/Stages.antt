@@ -24,9 +24,10 @@ use Rattle.table.proofs.Making.{Has, has, stays}
 use Rattle.table.proofs.Entry.{Entered, enters}
 use Rattle.ternary.specs.Read.{read, readable}
 use Rattle.ternary.specs.Write as write
+use Rattle.ternary.specs.Lacks.{ReadLacks, WriteLacks, WriteCase}
 use Rattle.ternary.proofs.OneText.{zero-one, length-text}
-use Rattle.ternary.proofs.Reading.{some-readable, ReadLacks, read-refused, read-lacks, read-gives}
-use Rattle.ternary.proofs.Writes.{WriteLacks, WriteCase, write-case}
+use Rattle.ternary.proofs.Reading.{some-readable, read-refused, read-lacks, read-gives}
+use Rattle.ternary.proofs.Writes.{write-case}
 use Rattle.translation.specs.Translate.{translate}
 use Rattle.translation.proofs.Translates.{translate-gives, translate-refused}
 use Rattle.translation.proofs.Lacks.{Lacks, translate-lacks}

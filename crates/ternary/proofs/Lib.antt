@@ -1,6 +1,7 @@
 -- The theorems of text, Read and Write; other crates cite them.
 pub mod OneText
 pub mod Reading
+pub mod EachDigit
 pub mod Writes
 pub mod RoundTrip
 pub mod Vectors

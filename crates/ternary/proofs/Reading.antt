@@ -13,23 +13,21 @@ use Rattle.calculus.specs.Tree.{Tree, leaf, stem, fork, size}
 use Rattle.table.specs.Nodes.{Table, Placed, capacity, Sound, treeAt, make, lay}
 use Rattle.table.specs.Outcome.{Outcome, whole, frames, zeros, atEntry, unless, placed, laid}
 use Rattle.table.specs.declared.Refusal.{Refusal}
-use Rattle.table.specs.declared.Refusal.the-variants.{Text, Nodes, Frames}
+use Rattle.table.specs.declared.Refusal.the-variants.{Nodes, Frames}
 use Rattle.table.specs.declared.Made.{Made}
 use Rattle.table.specs.declared.Made.the-variants.{Node, Refused}
 use Rattle.table.proofs.Trees.{Kept, kept-trans, kept-tree}
 use Rattle.table.proofs.Making.{Places, has, stays, stem-of, fork-of, lay-used, lay-node, lay-places}
-use Rattle.table.proofs.Entry.{Entered, entered, enters}
+use Rattle.table.proofs.Entry.{Entered, entered}
 use Rattle.table.proofs.Laid.{Room, room-case, room-laid, laid-gives, laid-answer, laid-stack}
 use Rattle.ternary.specs.Text.{text, treeOf, mostPending}
 use Rattle.ternary.specs.Read.{readable, readTree, read}
+use Rattle.ternary.specs.Lacks.{Readable, ReadLacks, ReadHas, ReadCase, Begins}
+use Rattle.ternary.specs.Lacks.ReadLacks.{at-entry, no-text, no-nodes, no-frames}
+use Rattle.ternary.specs.Lacks.ReadCase.{refuses, lays}
 use Rattle.ternary.proofs.OneText.{zero-one, whole-text, length-text}
 
--- "4: text not one whole tree, or above 65,535 bytes": what holds where neither is so.
-pub record Readable (l : List ℕ) (t : Tree) : Type 0 where
-  pub short : length l ≤ 65535
-  pub tree-of : treeOf l ≡ some t
-
--- such a text passes the check, and only such a text
+-- a text that is `Readable` passes the check of 4, and only such a text
 pub readable-some : (l : List ℕ) (t : Tree) → readable l ≡ some t → Readable l t
 unfolding readable
 readable-some l t = go (leb (length l) 65535) refl
@@ -45,26 +43,6 @@ some-readable {l} r = rw (le-leb (length l) 65535 (r .short)) (r .tree-of)
 text-size : {l : List ℕ} {t : Tree} → Readable l t → size t ≡ length l
 text-size {l} {t} r = sym (length-text t) ∙ ap length (sym (whole-text l t (r .tree-of)))
 
--- What Read lacked where it refuses with e and leaves the stack s′: "4: text not one whole tree [..] 8: more digits than free nodes. 9: fewer frames
--- than the most trees pending", each met only where the checks before it were passed.
-pub data ReadLacks (w : List ℕ) (u : ℕ) (s l : List ℕ) : Refusal → List ℕ → Type 0 where
-  at-entry : {e : Refusal} → atEntry true w u s ≡ some e → ReadLacks w u s l e s
-  no-text : Entered true w u s → readable l ≡ none → ReadLacks w u s l Text s
-  no-nodes : Entered true w u s → {t : Tree} → Readable l t → capacity w - u < length l → ReadLacks w u s l Nodes (zeros s)
-  no-frames : Entered true w u s → {t : Tree} → Readable l t → length l ≤ capacity w - u → frames s < mostPending l → ReadLacks w u s l Frames (zeros s)
-
--- What Read had where it lays out the tree t.
-pub record ReadHas (w : List ℕ) (u : ℕ) (s l : List ℕ) (t : Tree) : Type 0 where
-  pub entered : Entered true w u s
-  pub readable-as : Readable l t
-  pub nodes-enough : u + length l ≤ capacity w
-  pub frames-enough : mostPending l ≤ frames s
-
--- the two kinds of Read's outcome o
-pub data ReadCase (w : List ℕ) (u : ℕ) (s l : List ℕ) (o : Outcome Made) : Type 0 where
-  refuses : {e : Refusal} {s′ : List ℕ} → ReadLacks w u s l e s′ → o ≡ whole (Refused e) w s′ → ReadCase w u s l o
-  lays : {t : Tree} → ReadHas w u s l t → o ≡ laid w u s t → ReadCase w u s l o
-
 module _ (w : List ℕ) (u : ℕ) (s l : List ℕ) where
   -- Read's outcome is of one kind or the other.
   pub read-case : ReadCase w u s l (read w u s l)
@@ -74,17 +52,14 @@ module _ (w : List ℕ) (u : ℕ) (s l : List ℕ) where
       go : (a : Option Refusal) (r : Option Tree) → atEntry true w u s ≡ a → readable l ≡ r
           → ReadCase w u s l (unless a (λ e. whole (Refused e) w s) (readTree w u s l r))
       go (some e) r p q = refuses (at-entry p) refl
-      go none none p q = refuses (no-text (entered true w u s p) q) refl
+      go none none p q = refuses (no-text p q) refl
       go none (some t) p q = room (room-case w u s (length l) (mostPending l) t)
         where
-          n : Entered true w u s
-          n = entered true w u s p
-
           room : {o : Outcome Made} → Room w u s (length l) (mostPending l) t o → ReadCase w u s l o
-          room (Room.no-nodes h r) = refuses (no-nodes n (readable-some l t q) h) r
-          room (Room.no-frames h k r) = refuses (no-frames n (readable-some l t q) h k) r
+          room (Room.no-nodes h r) = refuses (no-nodes p (readable-some l t q) h) r
+          room (Room.no-frames h k r) = refuses (no-frames p (readable-some l t q) h k) r
           room (Room.enough h k r) =
-              lays (record { entered = n; readable-as = readable-some l t q; nodes-enough = omega (arith, n .table .within); frames-enough = k }) r
+              lays (record { entered = p; readable-as = readable-some l t q; nodes-enough = omega (arith, entered true w u s p .table .within); frames-enough = k }) r
 
   -- "Read, Translate and Label meet 8 and 9 before they make a node": no refusal of Read changes a table word.
   pub read-refused : (e : Refusal) → read w u s l .answer ≡ Refused e → read w u s l .table ≡ w
@@ -110,7 +85,7 @@ module _ (w : List ℕ) (u : ℕ) (s l : List ℕ) where
   pub read-lays : (t : Tree) → ReadHas w u s l t → read w u s l ≡ laid w u s t
   unfolding read readTree
   read-lays t h =
-      rw (enters (h .entered), some-readable (h .readable-as))
+      rw (h .entered, some-readable (h .readable-as))
       (sym (room-laid w u s (length l) (mostPending l) t (omega arith) (h .frames-enough)))
 
   -- "Digit p of n becomes node used + n − 1 − p": digit 0 is the node that is given.
@@ -137,9 +112,10 @@ read-gives w u s l v u′ q = go (read-case w u s l)
     go (refuses k r) = zero-one (cc)
     go (lays {t} h r) =
         let n = text-size (h .readable-as) in
-        let g = laid-gives w u s t v u′ (h .entered .table) (omega (arith, h .nodes-enough)) (cc) in
+        let f = entered true w u s (h .entered) in
+        let g = laid-gives w u s t v u′ (f .table) (omega (arith, h .nodes-enough)) (cc) in
         record {
-          entered = h .entered;
+          entered = f;
           tree = t;
           whole-text = h .readable-as .tree-of;
           had = h;
@@ -149,10 +125,6 @@ read-gives w u s l v u′ q = go (read-case w u s l)
           places = rw r (g .places);
           stack = rw r (laid-stack w u s t);
         }
-
--- the text of node i's tree begins the digits l
-abbrev pub Begins : List ℕ → ℕ → List ℕ → Type 0
-Begins w i l = (rest : List ℕ) × (l ≡ text (treeAt w i) ++ rest)
 
 begins-kept : {t z : Table} → Sound t → Kept t z → (i : ℕ) → i < t .used → {l : List ℕ} → Begins (t .words) i l → Begins (z .words) i l
 begins-kept s k i h b = (b .0, rw (kept-tree s k i h) (b .1))

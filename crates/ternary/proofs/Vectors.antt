@@ -1,13 +1,13 @@
--- Worked examples of the definitions that no theorem of this crate pins: which refusal comes first at a digit, and when trees are counted.
--- Assumes nothing.
+-- Worked examples of the definitions: which refusal comes first at a digit, which frames are held at it, and when trees are counted. Assumes nothing.
 use Prim.Native.Nat.{ℕ}
 use mathlib.Core.Path.{_≡_, refl}
 use mathlib.Core.List.{List, [], _∷_, map}
-use Rattle.calculus.specs.Tree.{Tree, leaf, stem, fork}
+use Rattle.calculus.specs.Tree.{Tree, leaf, stem, fork, size}
 use Rattle.table.specs.Refusal.{number, refusedNumbers}
 use Rattle.table.specs.declared.Refusal.the-variants.{Frames, Out}
-use Rattle.ternary.specs.Text.{text, takeLeaf, takeStem, takeFork, takeDigit, pending, count, mostPending}
+use Rattle.ternary.specs.Text.{text, takeLeaf, takeStem, takeFork, takeDigit, pending, manyPending, mostPending}
 use Rattle.ternary.specs.Write.{Room, left, lacks, next, spend, digits, writtenNumbers}
+use Rattle.ternary.specs.Held.{held}
 use Rattle.ternary.specs.declared.Written.the-variants.{Digits, Refused}
 
 -- "A refusal returns its number, used as at entry, and 0 for node number, steps and digits."
@@ -26,8 +26,14 @@ pub one-frame : (digits 1 0 (fork leaf (fork leaf leaf)) 5 ≡ left 0) × (digit
 unfolding digits spend next
 one-frame = (refl, refl)
 
+-- the frames held at each digit of 20200 and of 22000
+pub held-at : (map (held (fork leaf (fork leaf leaf))) (0 ∷ 1 ∷ 2 ∷ 3 ∷ 4 ∷ []) ≡ 0 ∷ 1 ∷ 0 ∷ 1 ∷ 0 ∷ [])
+    × (map (held (fork (fork leaf leaf) leaf)) (0 ∷ 1 ∷ 2 ∷ 3 ∷ 4 ∷ []) ≡ 0 ∷ 1 ∷ 2 ∷ 1 ∷ 0 ∷ [])
+unfolding held size
+held-at = (refl, refl)
+
 -- trees pending are counted after each digit: 0 needs one frame, 10 one, 200 two, 20200 two, 22000 three
 pub most : map (λ (t : Tree). mostPending (text t)) (leaf ∷ stem leaf ∷ fork leaf leaf ∷ fork leaf (fork leaf leaf) ∷ fork (fork leaf leaf) leaf ∷ [])
     ≡ 1 ∷ 1 ∷ 2 ∷ 2 ∷ 3 ∷ []
-unfolding text mostPending pending takeDigit takeLeaf takeStem takeFork count
+unfolding text mostPending pending takeDigit takeLeaf takeStem takeFork manyPending
 most = refl

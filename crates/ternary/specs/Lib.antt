@@ -2,3 +2,5 @@
 pub mod Text
 pub mod Read
 pub mod Write
+pub mod Held
+pub mod Lacks

@@ -54,11 +54,11 @@ unfoldable pub treeOf : List ℕ → Option Tree
 treeOf l = single (pending l)
 
 -- how many trees are pending
-unfoldable pub count : Option (List Tree) → ℕ
-count none = 0
-count (some ts) = length ts
+unfoldable pub manyPending : Option (List Tree) → ℕ
+manyPending none = 0
+manyPending (some ts) = length ts
 
 -- "the most trees pending while the digits are taken last to first", counted after each digit (Operations, Read)
 unfoldable pub mostPending : List ℕ → ℕ
 mostPending [] = 0
-mostPending (c ∷ l) = max (count (pending (c ∷ l))) (mostPending l)
+mostPending (c ∷ l) = max (manyPending (pending (c ∷ l))) (mostPending l)
