@@ -1,0 +1,4 @@
+-- The laws that the proofs of Read's functions cite.
+pub mod Scanning
+pub mod Laying
+pub mod ReadWays
