@@ -27,7 +27,9 @@ sub-apply-nodes : tie.Need-sub-apply-nodes Inv-loop μ-loop
 sub-apply-nodes c = omega (arith, c .before .before .before .loop .inv .within-limit)
 
 apply-nodes-requires : tie.Need-apply-nodes-requires Inv-loop μ-loop
-apply-nodes-requires c κs = ?
+apply-nodes-requires c κs =
+    let i = c .before .before .before .loop .inv in
+    (i .ready .fine, i .function-in, argument-in i (c .before .before .loop-test .taken), omega (arith, i .limited))
 
 enum-known-applied : tie.Need-enum-known-applied Inv-loop μ-loop
 enum-known-applied c = search needs

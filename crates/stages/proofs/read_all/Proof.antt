@@ -33,7 +33,7 @@ part-read-text-end : tie.Need-part-read-text-end Inv-loop μ-loop
 part-read-text-end c = let n = next-field (c .before .before .before .before .before .before .before .before .before .args .packet .now) (c .before .before .before .before .loop .at) (c .before .before .before .before .before .before .before .before .before .args .work .count) (c .before .before .before .before .loop .kept) (c .before .before .before .loop-test .taken) (c .before .before .before .before .loop .inv .stand) in rw (c .before .before .part-at .ensures) (omega (arith, n .stands))
 
 read-text-requires : tie.Need-read-text-requires Inv-loop μ-loop
-read-text-requires c κs = ?
+read-text-requires c κs = c .before .before .before .before .before .loop .inv .ready .fine
 
 enum-known-made : tie.Need-enum-known-made Inv-loop μ-loop
 enum-known-made c = search needs

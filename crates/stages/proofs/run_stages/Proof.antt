@@ -21,7 +21,7 @@ part-translate-rule-end : tie.Need-part-translate-rule-end
 part-translate-rule-end c = rw (c .before .before .part-at .ensures) (omega (arith, c .before .before .before .before .before .before .before .pre .3))
 
 translate-rule-requires : tie.Need-translate-rule-requires
-translate-rule-requires c κs = ?
+translate-rule-requires c κs = (c .before .before .before .before .before .before .before .before .pre .0 .fine, c .before .before .before .before .before .before .before .before .pre .0 .stack)
 
 enum-known-made : tie.Need-enum-known-made
 enum-known-made c = search needs

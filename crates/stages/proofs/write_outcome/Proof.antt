@@ -5,7 +5,7 @@ use Rattle.stages.proofs.write_outcome.Statement.{statement}
 use Rattle.stages.proofs.write_outcome.Tie as tie
 
 write-node-requires : tie.Need-write-node-requires
-write-node-requires c κs = ?
+write-node-requires c κs = (c .before .before .before .before .before .before .pre .0 .fine, c .before .before .before .before .before .before .pre .1)
 
 enum-known-written : tie.Need-enum-known-written
 enum-known-written c = search needs
@@ -17,7 +17,7 @@ written-refusal-requires : tie.Need-written-refusal-requires
 written-refusal-requires c κs = written-not (c .before .before .enum-told .given .1)
 
 stop-requires : tie.Need-stop-requires
-stop-requires c κs = ?
+stop-requires c κs = in-table (c .before .before .before .before .before .before .before .before .before .before .before .before .before .before .before .before .pre .0)
 
 same-length : tie.Need-same-length
 same-length c = search needs
