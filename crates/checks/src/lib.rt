@@ -101,7 +101,8 @@ pub fn check_room(
     ensures { λ r. ⌜ checkedWith r (now (stack .exit)) ≡ roomFor (now (table .entry)) used (now (stack .entry)) nodes held ⌝ }
 {
     let len = stack.len();
-    if table.len() / 2 - used < nodes {
+    let free = table.len() / 2 - used;
+    if free < nodes {
         nodes::clear(stack, 0, len);
         return Checked::Refused(Refusal::Nodes);
     }

@@ -4,8 +4,8 @@ use Rattle.checks.proofs.Room.{lacks-nodes, lacks-frames, lacks-nothing
 use Rattle.checks.proofs.check_room.Statement.{statement}
 use Rattle.checks.proofs.check_room.Tie as tie
 
-sub-if1 : tie.Need-sub-if1
-sub-if1 c = search needs
+sub-free : tie.Need-sub-free
+sub-free c = search needs
 
 clear-requires : tie.Need-clear-requires
 clear-requires c κs = search needs
@@ -32,7 +32,7 @@ pub check-room-spec : {M : Type 1} → statement M
 check-room-spec =
     tie.close
     (tie.spec
-    sub-if1
+    sub-free
     clear-requires
     same-length
     returns
