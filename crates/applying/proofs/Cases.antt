@@ -7,7 +7,7 @@ use mathlib.Core.Option.{Option, none, some}
 use native.Mathlib.Omega.{arith}
 use lib.Dec.{ltb, leb}
 use borrow.Author.Tests.{ltb-true, lt-ltb}
-use Rattle.table.specs.Nodes.{sound}
+use Rattle.table.specs.Nodes.{sound, Sound}
 use Rattle.table.specs.Outcome.{whole, frames, fits, atEntry}
 use Rattle.table.specs.Refusal.{number, clears}
 use Rattle.table.specs.declared.Refusal.{Refusal}
@@ -59,9 +59,12 @@ none-lacks {w} {u} {s} {limit = limit} i h k (is-broken l m) =
     omega arith
 none-lacks i h k (not-in-use l m) = m h k
 
--- an application begins in a good state
+-- an application begins in a good state, however many frames are lent
+pub sound-begin : {all : ℕ} {w : List ℕ} {u : ℕ} {f n : ℕ} → Sound (record { words = w; used = u }) → f < u → n < u → Good all (begin w u f n)
+sound-begin e h k = record { fine = e; function-in = h; argument-in = k; frames-in = tt; held-in = omega arith }
+
 pub good-begin : {within : Bool} {w : List ℕ} {u : ℕ} {s : List ℕ} {f n : ℕ} → Entered within w u s → f < u → n < u → Good (frames s) (begin w u f n)
-good-begin e h k = record { fine = e .table; function-in = h; argument-in = k; frames-in = tt; held-in = omega arith }
+good-begin e = sound-begin (e .table)
 
 -- on an entered table, with both nodes in use, Apply is what its inner definition says
 pub entered-apply : {w : List ℕ} {u : ℕ} {s : List ℕ} {f n : ℕ} (limit : ℕ) → Entered (leb limit 1000000) w u s → f < u → n < u

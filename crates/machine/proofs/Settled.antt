@@ -18,7 +18,6 @@ use Rattle.table.proofs.Words.{cleared-all}
 use Rattle.table.proofs.Entry.{Entered, entered, enters, check-refuses}
 use Rattle.applying.specs.declared.Applied.{Applied}
 use Rattle.applying.specs.declared.Applied.the-variants.{Node, Refused}
-use Rattle.applying.specs.States.{Good}
 use Rattle.frames.specs.declared.End.{End}
 use Rattle.frames.specs.declared.End.the-variants as ended
 use Rattle.frames.specs.declared.Turned.{Turned}
@@ -26,6 +25,7 @@ use Rattle.applying.specs.Machine.{Turn, more, done, stop, uses}
 use Rattle.applying.specs.Apply.{settle, begin, applyNodes, apply}
 use Rattle.frames.specs.Code.{endOf, turnOf}
 use Rattle.applying.proofs.States.{Later, uses-later}
+use Rattle.applying.proofs.Cases.{sound-begin, entered-apply}
 
 -- Where an application ends: y and z are the words of table and stack that it leaves.
 module _ (u : ℕ) (w s y z : List ℕ) (x : Turned) (a : Applied) (stack : z ≡ cleared s 0 (length s)) where
@@ -60,26 +60,22 @@ same-zeros u z s l (more y) = rw l
 same-zeros u z s l (done p k) = rw l
 same-zeros u z s l (stop e t) = rw l
 
--- What Apply comes to on a sound table with two nodes in use
-module _ {w : List ℕ} {u : ℕ} (s : List ℕ) {f n : ℕ} (fine : Sound (record { words = w; used = u })) (function-in : f < u) (argument-in : n < u) where
-  pub begins : Good (frames s) (begin w u f n)
-  begins = record { fine = fine; function-in = function-in; argument-in = argument-in; frames-in = tt; held-in = omega arith }
+-- An application on a sound table with two nodes in use, by its uses: y and z are the words of table and stack after them.
+module _ {w : List ℕ} {u : ℕ} (s : List ℕ) {f n : ℕ} (fine : Sound (record { words = w; used = u })) (function-in : f < u) (argument-in : n < u)
+    (limit : ℕ) (t : Turned) (y z : List ℕ) (used : turnOf t y z ≡ uses (frames s) limit (begin w u f n)) where
+  -- no node is lost, and those in use lie in the table
+  pub used-in : (u ≤ t .state .used) × (t .state .used * 2 ≤ length y)
+  used-in = go (t .end) (subst (Later (frames s) (begin w u f n .table)) (sym used) (uses-later limit (sound-begin fine function-in argument-in)))
+    where
+      go : (e : End) → Later (frames s) (begin w u f n .table) (endOf e (t .state) y z) → (u ≤ t .state .used) × (t .state .used * 2 ≤ length y)
+      go ended.More l = (l .extends .kept .up, omega (arith, l .fine .within))
+      go ended.Done l = (l .extends .kept .up, omega (arith, l .fine .within))
+      go ended.Nodes l = (l .extends .kept .up, omega (arith, l .fine .within))
+      go ended.Frames l = (l .extends .kept .up, omega (arith, l .fine .within))
 
-  -- by its uses: y and z are the words of table and stack after them
-  module _ (limit : ℕ) (t : Turned) (y z : List ℕ) (used : turnOf t y z ≡ uses (frames s) limit (begin w u f n)) where
-    -- no node is lost, and those in use lie in the table
-    pub used-in : (u ≤ t .state .used) × (t .state .used * 2 ≤ length y)
-    used-in = go (t .end) (subst (Later (frames s) (begin w u f n .table)) (sym used) (uses-later limit begins))
-      where
-        go : (e : End) → Later (frames s) (begin w u f n .table) (endOf e (t .state) y z) → (u ≤ t .state .used) × (t .state .used * 2 ≤ length y)
-        go ended.More l = (l .extends .kept .up, omega (arith, l .fine .within))
-        go ended.Done l = (l .extends .kept .up, omega (arith, l .fine .within))
-        go ended.Nodes l = (l .extends .kept .up, omega (arith, l .fine .within))
-        go ended.Frames l = (l .extends .kept .up, omega (arith, l .fine .within))
-
-    pub settled : (o : Outcome Applied) → length z ≡ length s → o ≡ settle u z (turnOf t y z) → o ≡ applyNodes w u s f n limit
-    unfolding applyNodes
-    settled o l r = r ∙ rw used (same-zeros u z s l (uses (frames s) limit (begin w u f n)))
+  pub settled : (o : Outcome Applied) → length z ≡ length s → o ≡ settle u z (turnOf t y z) → o ≡ applyNodes w u s f n limit
+  unfolding applyNodes
+  settled o l r = r ∙ rw used (same-zeros u z s l (uses (frames s) limit (begin w u f n)))
 
 -- Apply by the code's check: it refuses, one of the numbers is none of a node in use, or the application goes on
 module _ (w : List ℕ) (u : ℕ) (s : List ℕ) (f n limit : ℕ) {x : Checked} (p : refusalOf x ≡ atEntry (leb limit 1000000) w u s) where
@@ -104,5 +100,4 @@ module _ (w : List ℕ) (u : ℕ) (s : List ℕ) (f n limit : ℕ) {x : Checked}
       refuse-argument h = rw (enters passed-by, lt-ltb f u function-in, le-ltb n u h)
 
       pub by-nodes : n < u → (o : Outcome Applied) → o ≡ applyNodes w u s f n limit → o ≡ apply w u s f n limit
-      unfolding apply
-      by-nodes argument-in o r = rw (enters passed-by, lt-ltb f u function-in, lt-ltb n u argument-in) r
+      by-nodes argument-in o r = r ∙ entered-apply limit passed-by function-in argument-in

@@ -1,6 +1,7 @@
 -- `machine::apply_nodes` meets its contract: the uses, and how they end. Assumes nothing.
 use Rattle.frames.specs.Code.{framesOf}
-use Rattle.machine.proofs.Settled.{begins, used-in, settled}
+use Rattle.applying.proofs.Cases.{sound-begin}
+use Rattle.machine.proofs.Settled.{used-in, settled}
 use borrow.Author.Needs.{needs}
 use native.Mathlib.Omega.{arith}
 use Rattle.machine.proofs.apply_nodes.Statement.{statement}
@@ -10,7 +11,7 @@ uses-requires : tie.Need-uses-requires
 unfolding framesOf
 uses-requires c κs =
     let b = c .before .before .before .before in
-    (begins (b .args .stack .now) (b .pre .0) (b .pre .1) (b .pre .2), omega (arith, b .pre .3))
+    (sound-begin (b .pre .0) (b .pre .1) (b .pre .2), omega (arith, b .pre .3))
 
 settle-requires : tie.Need-settle-requires
 unfolding framesOf
