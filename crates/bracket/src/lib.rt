@@ -27,7 +27,7 @@ fn put5(to: &mut [u32], q: usize, a: u32, b: u32, c: u32, d: u32, e: u32) -> usi
 }
 
 // Writes to `to` from `q` on the bracket abstraction of the term whose words start at `p` of `from`; the place after it. From Δ it is KΔ, from
-// the variable abstracted I, from another Ky, from uv Δ(Δv′)u′. No shortcut is taken.
+// the variable abstracted I, whose nine words are two runs that share a word, from another Ky, from uv Δ(Δv′)u′. No shortcut is taken.
 fn bracket_at(from: &[u32], p: usize, to: &mut [u32], q: usize) -> usize
     requires { ⌜ BracketAt (now from) p (now to) q ⌝ }
     ensures { λ r. ⌜ ((c : Combination) → Holds (now (from .entry)) p (words c) → Written (now (to .entry)) q (words (bracket c)) r (now (to .exit))) ⌝ }

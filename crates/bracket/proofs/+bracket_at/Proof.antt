@@ -1,5 +1,5 @@
 -- `bracket::bracket_at` meets its contract, by the first word of the term's run. The measure is what is left of the run. Assumes nothing.
-use Prim.Native.Nat.{ℕ, _+_, _-_, _<_}
+use Prim.Native.Nat.{ℕ, _-_, _<_}
 use mathlib.Core.Path.{ap, _∙_}
 use native.Mathlib.Omega.{arith}
 use mathlib.Core.List.{[], _∷_}

@@ -1,5 +1,5 @@
 -- `term::lay` meets its contract, by the first word of the tree's run. The measure is what is left of the run. Assumes nothing.
-use Prim.Native.Nat.{ℕ, _+_, _-_, _<_}
+use Prim.Native.Nat.{ℕ, _-_, _<_}
 use mathlib.Core.Path.{_∙_}
 use native.Mathlib.Omega.{arith}
 use lib.ListN.{length}
