@@ -84,6 +84,7 @@ pub record Follows (w : List ℕ) (u : ℕ) (s : List ℕ) (f n limit v u′ k :
   pub applies : Apply (treeAt w f) (treeAt w n) (treeAt (apply w u s f n limit .table) v) k
   pub within-limit : k ≤ limit
   pub used-is : u′ ≡ u + newNodes applies
+  pub ends : uses (frames s) limit (begin w u f n) ≡ done (record { table = record { words = apply w u s f n limit .table; used = u′ }; node = v }) k
   pub fine : Sound (record { words = apply w u s f n limit .table; used = u′ })
   pub extends : Extends (record { words = w; used = u }) (record { words = apply w u s f n limit .table; used = u′ })
   pub inside : v < u′
@@ -119,6 +120,7 @@ module _ (w : List ℕ) (u : ℕ) (s : List ℕ) (f n limit : ℕ) where
         applies = x;
         within-limit = omega (arith, c .1);
         used-is = omega (arith, z .made-new, z .leads .new, z .leads .goes .2, newNodes-unique (same f h) (same n l) (z .leads .applies) x);
+        ends = rw (r, ← a, ← b, ← d) q;
         fine = rw (r, ← b) (y .fine);
         extends = rw (r, ← b) (y .extends);
         inside = rw (← a, ← b) (y .ready);

@@ -5,6 +5,7 @@ pub mod Outcomes
 pub mod Stages
 pub mod Checks
 pub mod Refused
+pub mod Cleared
 pub mod Direct
 pub mod Empty
 pub mod Complete

@@ -30,13 +30,13 @@ pub stops-by : (P : Refusal → Type 0) {w s o : List ℕ} {p : Packet} {t : Ter
     → {e : Refusal} {m : ℕ} → Stops w s o p t args e m → P e
 stops-by P a b c d (translate-nodes h) = b
 stops-by P a b c d (translate-frames h k) = c
-stops-by P a b c d (in-read r) = go r
+stops-by P a b c d (in-read i r) = go r
   where
     go : {w s : List ℕ} {u : ℕ} {ls : List (List ℕ)} {e : Refusal} {m : ℕ} → ReadStops w s u ls e m → P e
     go (no-nodes h) = b
     go (no-frames h k) = c
     go (later h k r) = go r
-stops-by P {w = w} {s = s} {p = p} {t = t} {args = args} a b c d (in-apply x h) = go (x .halts) x
+stops-by P {w = w} {s = s} {p = p} {t = t} {args = args} a b c d (in-apply i j x h k) = go (x .halts) x
   where
     lacked : {all : ℕ} {z : State} {e : Refusal} → Lacks all z e → P e
     lacked (no-place h l) = b
@@ -45,7 +45,7 @@ stops-by P {w = w} {s = s} {p = p} {t = t} {args = args} a b c d (in-apply x h) 
     go : {all limit : ℕ} {z : State} {e : Refusal} → Halts all limit z e → ApplyStops w s p t args e → P e
     go (limit-reached h l) x = a x
     go (at-use h l m) x = lacked m
-stops-by P a b c d (in-write x h r l) = go r
+stops-by P a b c d (in-write i j x h r k l) = go r
   where
     go : {all held n : ℕ} {r : Tree} {e : Refusal} → Spent all held r n (lacks e) → P e
     go (no-out h) = d
