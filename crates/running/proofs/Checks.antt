@@ -17,7 +17,7 @@ use Rattle.table.proofs.Words.{and-left, and-right}
 use Rattle.ternary.specs.Read.{readable}
 use Rattle.ternary.proofs.OneText.{zero-one}
 use Rattle.fields.specs.Packet.{Packet, packet}
-use Rattle.running.specs.Run.{Whole, whole, allReadable, runPacket, lengthsFit, run}
+use Rattle.running.specs.Run.{whole, allReadable, runPacket, lengthsFit, run}
 use Rattle.running.specs.Claims.{Fit, Unreadable, here, there, Checked, Refuses, too-long, no-packet, no-rule, no-text}
 use Rattle.running.specs.declared.Ran.the-variants.{Refused}
 use Rattle.running.proofs.Limit.{packet-limit}

@@ -1,5 +1,5 @@
 -- How many nodes a refused Run cleared is one number, which the packet and the lent lengths decide. Assumes nothing.
-use Prim.Native.Nat.{ℕ, _≤_, _<_}
+use Prim.Native.Nat.{ℕ}
 use mathlib.Core.Path.{_≡_, refl, sym, _∙_}
 use mathlib.Core.List.{List}
 use native.Mathlib.Omega.{arith}
@@ -8,7 +8,7 @@ use Rattle.calculus.specs.Term.{Term}
 use Rattle.calculus.specs.Abstraction.{ruleTree}
 use Rattle.table.specs.declared.Refusal.{Refusal}
 use Rattle.fields.specs.Packet.{Packet}
-use Rattle.running.specs.Claims.{nodesMade, TranslateHad, ReadsHad, all-read, and-read, ReadStops, no-nodes, no-frames, later, Stops, translate-nodes, translate-frames, in-read, in-apply, in-write}
+use Rattle.running.specs.Claims.{nodesMade, TranslateHad, ReadsHad, and-read, ReadStops, no-nodes, no-frames, later, Stops, translate-nodes, translate-frames, in-read, in-apply, in-write}
 
 reads-one : {w s : List ℕ} {u : ℕ} {ls : List (List ℕ)} {e c : Refusal} {m n : ℕ} → ReadStops w s u ls e m → ReadStops w s u ls c n → m ≡ n
 reads-one (no-nodes h) (no-nodes k) = refl

@@ -4,10 +4,9 @@ use mathlib.Core.Path.{_≡_, refl, ap}
 use mathlib.Core.Bool.{true, false}
 use mathlib.Core.List.{List}
 use mathlib.Core.Logic.{_↔_}
-use mathlib.Core.Option.{none, some}
+use mathlib.Core.Option.{none}
 use Rattle.calculus.specs.Tree.{Tree}
 use Rattle.calculus.specs.Term.{Term}
-use Rattle.calculus.specs.Bytes.{rule}
 use Rattle.table.specs.Refusal.{number, refusedNumbers, clears}
 use Rattle.table.specs.declared.Refusal.{Refusal}
 use Rattle.table.specs.declared.Refusal.the-variants.{Limits, Broken, Node, Text, Rule, Steps, Nodes, Frames, Out}
@@ -19,7 +18,7 @@ use Rattle.applying.specs.Machine.{State}
 use Rattle.applying.specs.Lacks.{Lacks, no-place, all-held, Halts, limit-reached, at-use}
 use Rattle.fields.specs.Packet.{Packet, packet}
 use Rattle.running.specs.Run.{Whole, run, ranNumbers}
-use Rattle.running.specs.Claims.{Fit, Unreadable, Checked, ReadStops, no-nodes, no-frames, later, ApplyStops, Stops, translate-nodes, translate-frames, in-read, in-apply, in-write, Refuses, too-long, no-packet, no-rule, no-text, stops, Undid, BadRule, BadText}
+use Rattle.running.specs.Claims.{Fit, Checked, ReadStops, no-nodes, no-frames, later, ApplyStops, Stops, translate-nodes, translate-frames, in-read, in-apply, in-write, Refuses, too-long, no-packet, no-rule, no-text, stops, Undid, BadRule, BadText}
 use Rattle.running.specs.declared.Ran.the-variants.{Refused}
 use Rattle.running.proofs.Outcomes.{Staged}
 use Rattle.running.proofs.Outcomes as outcomes

@@ -10,7 +10,7 @@ use Rattle.calculus.specs.Tree.{size}
 use Rattle.calculus.specs.Term.{Term}
 use Rattle.calculus.specs.Bytes.{rule}
 use Rattle.calculus.specs.Abstraction.{ruleTree}
-use Rattle.table.specs.Nodes.{Table, capacity}
+use Rattle.table.specs.Nodes.{capacity}
 use Rattle.table.specs.Outcome.{frames, stopped, laid}
 use Rattle.table.specs.declared.Refusal.the-variants.{Nodes, Frames}
 use Rattle.table.specs.declared.Made.the-variants.{Node, Refused}
