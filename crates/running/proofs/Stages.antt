@@ -124,12 +124,15 @@ module _ {w s o : List ℕ} (fit : Fit w s o) (p : Packet) (t : Term) (args : Li
       st : Stands w s z y
       st = a .stands
 
+      made-all : z .used ≡ nodesMade w s p t args
+      made-all = omega (arith, a .all-made)
+
       lacked : {e : Refusal} {y′ : List ℕ} → WriteLacks (z .words) (z .used) y v o e y′ → (length y′ ≡ length s) × Stops w s o p t args e (z .used)
       lacked (WriteLacks.at-entry q) = zero-one (cc (enters (enter st (le-leb _ _ (fit .out)))))
       lacked (WriteLacks.no-node f h) = absurd (omega (arith, a .root .inside))
       lacked (WriteLacks.no-room f h x) = (
         zeros-length _ y refl ∙ st .stack,
-        in-write {m = z .used} (a .translated) (a .read-all) (a .so-far) (a .within-limit) (rw (a .root .tree, st .stack) at x) (omega (arith, a .all-made)) (a .used-is),
+        in-write (a .translated) (a .read-all) (a .so-far) (a .within-limit) (rw (a .root .tree, st .stack) at x) made-all (a .used-is),
       )
 
       go : WriteCase (z .words) (z .used) y v o (write.write (z .words) (z .used) y v o)
@@ -177,7 +180,7 @@ module _ {w s o : List ℕ} (fit : Fit w s o) (p : Packet) (t : Term) (args : Li
               so-far = apply-further (a .so-far) d;
               within-limit = omega (arith, q .within-limit, a .within-limit);
               used-is = omega (arith, q .used-is, a .used-is, newNodes-unique (a .root .tree) (h .tree) (q .applies) d, further-new (a .so-far) d);
-              all-made = rw (less) (sym (all-on (frames s) (p .limit - k) z v n ns (rw (st .stack) at (q .ends))) ∙ a .all-made);
+              all-made = rw less (sym (all-on (frames s) (p .limit - k) z v n ns (rw (st .stack) at (q .ends))) ∙ a .all-made);
               translated = a .translated;
               read-all = a .read-all;
             })
@@ -209,9 +212,9 @@ module _ {w s o : List ℕ} (fit : Fit w s o) (p : Packet) (t : Term) (args : Li
               no-tree = λ c d. in-time xs (p .limit) (a .so-far) (a .within-limit)
                   (λ g i f. steps-used-up (z .words) (z .used) y v n (p .limit - k) (q ∙ ap applied.Refused c) (rw (← a .root .tree, ← h .tree) at f)) (rw m at d);
             } in
-            refuse st (r .stack)
-            (in-apply {m = z .used + machine.made (frames y) (p .limit - k) (begin (z .words) (z .used) v n)} (a .translated) (a .read-all) x (omega (arith, rw (st .stack) at c, a .all-made, ap (λ (j : ℕ). machine.made (j / 3) (p .limit - k) (begin (z .words) (z .used) v n)) (st .stack)))
-            (rw (← st .stack) (omega (arith, i)))) (b .back) (zeros-length _ y (b .stack) ∙ st .stack)
+            let u : z .used + machine.made (frames y) (p .limit - k) (begin (z .words) (z .used) v n) ≡ nodesMade w s p t args =
+            rw (st .stack) (omega (arith, rw (st .stack) at c, a .all-made)) in
+            refuse st (r .stack) (in-apply (a .translated) (a .read-all) x u (rw (← st .stack) (omega (arith, i)))) (b .back) (zeros-length _ y (b .stack) ∙ st .stack)
 
   -- each text is read: the nodes have the texts' trees, and each digit is a node
   reads-staged : (ls : List (List ℕ)) (xs : List Tree) → map readable ls ≡ map some xs → {z : Table} {y : List ℕ} → Stands w s z y
