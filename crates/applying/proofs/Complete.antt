@@ -21,6 +21,7 @@ use Rattle.applying.specs.Machine.{State, Turn, more, done, stop, turn, 
 use Rattle.applying.specs.Apply.{settle, begin, applyNodes, apply}
 use Rattle.applying.specs.Lacks.{Lacks, no-place, all-held}
 use Rattle.applying.specs.States.{Good}
+use Rattle.applying.specs.Claims.{Gives}
 use Rattle.applying.proofs.States.{tableOf, Later, turn-later, Counted, turn-steps}
 use Rattle.applying.proofs.Leads.{Leads, TurnLeads, leads-same, leads-after, uses-some, and-then}
 use Rattle.applying.proofs.Cases.{Ways, refused, ran, ways, entry-keeps, good-begin}
@@ -49,10 +50,6 @@ uses-end (suc m) {all} {s} g o (suc k) n x h =
     go (more z) l c n d r = let q : s .steps + suc k ≡ z .steps + k = omega arith in rw q (r z (l .ready) d)
     go (done p j) l c n d r = (d .0, omega (arith, c, d .1))
     go (stop e t) l c n d r = tt
-
--- the answer is a node of the tree r after k steps
-abbrev pub Gives : List ℕ → ℕ → List ℕ → ℕ → ℕ → ℕ → Tree → ℕ → Type 0
-Gives w u s f n limit r k = (v : ℕ) × (u′ : ℕ) × (apply w u s f n limit .answer ≡ Node v u′ k) × (treeAt (apply w u s f n limit .table) v ≡ r)
 
 -- Where the rules give a tree in at most `limit` uses, Apply gives that tree in as many steps or stops for nodes or frames: "Then 7, 8, 9 as the
 -- rules say."

@@ -1,22 +1,23 @@
 -- A completed application follows the five rules, and a refused one leaves the nodes as they were. Assumes nothing.
-use Prim.Native.Nat.{ℕ, zero, suc, _+_, _≤_, _<_}
+use Prim.Native.Nat.{ℕ, zero, suc, _+_, _<_}
 use mathlib.Core.Path.{_≡_, refl, ap, _∙_, subst}
 use mathlib.Core.Bool.{cond}
 use mathlib.Core.List.{List}
 use native.Mathlib.Omega.{arith}
 use lib.Dec.{leb}
 use Rattle.calculus.specs.Tree.{Tree}
-use Rattle.calculus.specs.Rules.{Apply, newNodes}
+use Rattle.calculus.specs.Rules.{Apply}
 use Rattle.calculus.proofs.Unique.{newNodes-unique}
-use Rattle.table.specs.Nodes.{Table, Placed, Sound, treeAt}
-use Rattle.table.specs.Outcome.{frames, zeros, stopped}
+use Rattle.table.specs.Nodes.{Table, Placed, treeAt}
+use Rattle.table.specs.Outcome.{frames, stopped}
 use Rattle.table.specs.declared.Refusal.{Refusal}
-use Rattle.table.proofs.Trees.{Kept, kept-refl, kept-tree, Extends}
-use Rattle.table.proofs.Entry.{Entered, stopped-kept}
+use Rattle.table.proofs.Trees.{Kept, kept-refl, kept-tree}
+use Rattle.table.proofs.Entry.{Entered, enters, stopped-kept}
 use Rattle.applying.specs.declared.Applied.the-variants.{Node, Refused}
 use Rattle.applying.specs.Machine.{rule, needsNode, State, Turn, more, done, stop, turn, after, uses, madeAfter, made}
 use Rattle.applying.specs.Apply.{settle, begin, apply}
 use Rattle.applying.specs.States.{Good}
+pub use Rattle.applying.specs.Claims.{Follows}
 use Rattle.applying.proofs.States.{tableOf, Later, turn-later, uses-later, Counted, turn-steps, uses-steps, uses-made}
 use Rattle.applying.proofs.Leads.{Leads, TurnLeads, leads-before}
 use Rattle.applying.proofs.Cases.{Ways, refused, ran, ways, good-begin}
@@ -76,19 +77,6 @@ uses-follow (suc k) {all} {s} g p j e =
         record { left = 0; rest = 0; leads = (t, refl, refl); kept = rw a (kept-refl (p .table)); counted = omega arith; made-new = omega arith }
     go (stop d t) l c r q = let n : _≡_ {A = ℕ} 0 1 = cc in absurd (omega arith)
 
--- What a completed application is, that gave node v and k steps and left u′ nodes in use.
-pub record Follows (w : List ℕ) (u : ℕ) (s : List ℕ) (f n limit v u′ k : ℕ) : Type 0 where
-  pub entered : Entered (leb limit 1000000) w u s
-  pub function-in : f < u
-  pub argument-in : n < u
-  pub applies : Apply (treeAt w f) (treeAt w n) (treeAt (apply w u s f n limit .table) v) k
-  pub within-limit : k ≤ limit
-  pub used-is : u′ ≡ u + newNodes applies
-  pub fine : Sound (record { words = apply w u s f n limit .table; used = u′ })
-  pub extends : Extends (record { words = w; used = u }) (record { words = apply w u s f n limit .table; used = u′ })
-  pub inside : v < u′
-  pub stack : apply w u s f n limit .stack ≡ zeros s
-
 apply-by : {f g n m r o : Tree} {j k : ℕ} → f ≡ g → n ≡ m → r ≡ o → j ≡ k → Apply f n r j → Apply g m o k
 apply-by a b c d x = rw (← a, ← b, ← c, ← d) x
 
@@ -113,12 +101,13 @@ module _ (w : List ℕ) (u : ℕ) (s : List ℕ) (f n limit : ℕ) where
       rw r (apply-by (same f h) (same n l) (z .leads .goes .0 ∙ ap (treeAt (p .table .words)) a) m (z .leads .applies)) in
       let used : p .table .used ≡ u + made (frames s) limit (begin w u f n) = rw q at (uses-made (frames s) limit (begin w u f n)) in
       record {
-        entered = i;
+        entered = enters i;
         function-in = h;
         argument-in = l;
         applies = x;
         within-limit = omega (arith, c .1);
         used-is = omega (arith, z .made-new, z .leads .new, z .leads .goes .2, newNodes-unique (same f h) (same n l) (z .leads .applies) x);
+        ends = rw (r, ← a, ← b, ← d) q;
         fine = rw (r, ← b) (y .fine);
         extends = rw (r, ← b) (y .extends);
         inside = rw (← a, ← b) (y .ready);

@@ -19,6 +19,7 @@ use Rattle.applying.specs.declared.Rule.the-variants.{Leaf, Stem, Drop, 
 use Rattle.applying.specs.declared.Frame.{Frame}
 use Rattle.applying.specs.declared.Frame.the-variants.{SpreadFirst, SpreadSecond, TriageFirst}
 use Rattle.applying.specs.States.{FrameIn, FramesIn, Good}
+pub use Rattle.applying.specs.States.{tableOf, Counted}
 use Rattle.applying.specs.Machine.{forkRule, rule, needsNode, needsFrame, State, Turn, more, done, stop, resume, grow, hold, useRule, turn, after, uses, madeAfter, made}
 
 -- a choice by a test, with what the test says
@@ -63,12 +64,6 @@ rule-in {t} s f h =
     words-by (RuleIn (t .used)) (first w f) (second w f) (λ e. tt) (λ e k. c)
     (λ e k. words-by (RuleIn (t .used)) (first w x) (second w x) (λ i. d)
     (λ i j. (omega (arith, b .first-in), d)) (λ i j. (omega (arith, b .first-in), omega (arith, b .second-in))))
-
--- the table that a turn leaves
-abbrev pub tableOf : Turn → Table
-tableOf (more z) = z .table
-tableOf (done p k) = p .table
-tableOf (stop e t) = t
 
 abbrev pub Ready : ℕ → Turn → Type 0
 Ready all (more z) = Good all z
@@ -173,12 +168,6 @@ module _ (all : ℕ) (s : State) (P : Turn → Type 0)
       → P (turn all s)
   unfolding turn
   turn-by = use-by (rule (s .table .words) (s .function))
-
--- how many steps were counted by a turn after at most k uses, where `from` were counted before
-abbrev pub Counted : ℕ → ℕ → Turn → Type 0
-Counted from k (more z) = z .steps ≡ from + k
-Counted from k (done p j) = (from < j) × (j ≤ from + k)
-Counted from k (stop e t) = Unit {0}
 
 -- "Each use is one step, counted when taken".
 pub turn-steps : (all : ℕ) (s : State) → Counted (s .steps) 1 (turn all s)

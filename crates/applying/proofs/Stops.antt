@@ -1,6 +1,6 @@
 -- Apply is refused only on a refusal's condition, and what it leaves of lent memory then. Assumes nothing.
 use Prim.Native.Nat.{ℕ, zero, suc, _+_, _*_, _≤_, _<_}
-use mathlib.Core.Path.{_≡_, refl, sym, ap, _∙_}
+use mathlib.Core.Path.{_≡_, refl, sym, _∙_}
 use mathlib.Core.Bool.{Bool, true, false, cond}
 use mathlib.Core.List.{List}
 use native.Mathlib.Omega.{arith}
@@ -12,7 +12,7 @@ use Rattle.table.specs.Nodes.{Table, capacity, cleared}
 use Rattle.table.specs.Outcome.{frames, zeros, stopped}
 use Rattle.table.specs.Refusal.{number, clears}
 use Rattle.table.specs.declared.Refusal.{Refusal}
-use Rattle.table.specs.declared.Refusal.the-variants.{Steps, Nodes, Frames}
+use Rattle.table.specs.declared.Refusal.the-variants.{Steps}
 use Rattle.table.proofs.Words.{length-cleared, cleared-below, cleared-inside, cleared-beyond}
 use Rattle.table.proofs.Trees.{Extends}
 use Rattle.table.proofs.Entry.{enters, stopped-kept}

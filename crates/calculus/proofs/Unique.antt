@@ -1,5 +1,5 @@
 -- The five rules, and the evaluations that rest on them, give one tree in one number of uses and with one number of new nodes. Assumes nothing.
-use Prim.Native.Nat.{ℕ, _+_, _≤_}
+use Prim.Native.Nat.{ℕ, _≤_}
 use mathlib.Core.Path.{_≡_, refl, subst}
 use mathlib.Core.List.{List}
 use native.Mathlib.Omega.{arith}

@@ -1,5 +1,5 @@
 -- Label is refused only on a refusal's condition, and leaves every word as found then. Assumes nothing.
-use Prim.Native.Nat.{ℕ, _-_, _<_}
+use Prim.Native.Nat.{ℕ, _-_}
 use mathlib.Core.Path.{_≡_, refl, sym, subst}
 use mathlib.Core.Bool.{Bool, true, false, cond, _&&_}
 use mathlib.Core.List.{List, []}
@@ -17,7 +17,7 @@ use Rattle.table.specs.declared.Made.the-variants.{Refused}
 use Rattle.table.proofs.Words.{and-left, and-right}
 use Rattle.table.proofs.Laid.{refused-made}
 use Rattle.label.specs.Label.{nodes, label}
-use Rattle.label.specs.Lacks.{LabelLacks, too-long, is-broken, not-in-use, no-nodes}
+use Rattle.label.specs.Claims.{LabelLacks, too-long, is-broken, not-in-use, no-nodes}
 
 module _ (w : List ℕ) (u f t : ℕ) (e : Refusal) where
   abbrev Says : Outcome Made → Type 0

@@ -1,4 +1,4 @@
--- Label, what it lacks where it is refused, and what its code's own values say. Assumes nothing: these are definitions.
+-- Label, what is claimed of it, and what its code's own values say. Assumes nothing: these are definitions.
 pub mod Label
-pub mod Lacks
+pub mod Claims
 pub mod Code

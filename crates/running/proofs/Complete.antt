@@ -1,8 +1,8 @@
 -- Where the rules give a tree within the limit, Run writes its text or lacks nodes, frames or out bytes. Assumes nothing.
 use Prim.Native.Nat.{ℕ, _+_, _≤_}
-use mathlib.Core.Path.{_≡_, refl, ap}
+use mathlib.Core.Path.{refl, ap}
 use mathlib.Core.List.{List, [], _∷_}
-use mathlib.Core.Logic.{_⊎_, inl, inr}
+use mathlib.Core.Logic.{inl, inr}
 use native.Mathlib.Omega.{arith}
 use Rattle.table.specs.Outcome.{Outcome}
 use Rattle.calculus.specs.Tree.{Tree}

@@ -1,27 +1,26 @@
 -- What a Run that writes a text is: the direct run of the packet's rule on its arguments. Assumes nothing.
-use Prim.Native.Nat.{ℕ, _+_, _*_, _≤_}
+use Prim.Native.Nat.{ℕ}
 use mathlib.Core.Path.{_≡_, refl, sym, ap, _∙_}
 use mathlib.Core.List.{List, [], _∷_, _++_, map}
 use mathlib.Core.Option.{some}
 use native.Mathlib.Omega.{arith}
-use lib.ListN.{length, take, drop, getD}
+use lib.ListN.{length, drop}
 use lib.Seq.{take-at}
+use Rattle.table.specs.Outcome.{Outcome}
 use Rattle.calculus.specs.Tree.{Tree}
 use Rattle.calculus.specs.Rules.{ApplyAll}
-use Rattle.calculus.specs.Term.{Term, parameters}
+use Rattle.calculus.specs.Term.{Term}
 use Rattle.calculus.specs.Bytes.{rule}
 use Rattle.calculus.specs.Abstraction.{ruleTree}
-use Rattle.calculus.specs.Runs.{Direct, Translated, difference}
+use Rattle.calculus.specs.Runs.{Translated}
 use Rattle.calculus.proofs.Unique.{newNodesAll-unique}
 use Rattle.calculus.proofs.Rule.{rule-leads}
 use Rattle.calculus.proofs.Demand3.{demand-3}
-use Rattle.table.specs.Nodes.{Sound}
-use Rattle.table.specs.Outcome.{Outcome, zeros}
 use Rattle.ternary.specs.Text.{text, treeOf}
 use Rattle.ternary.specs.Read.{readable}
 use Rattle.ternary.proofs.OneText.{zero-one}
 use Rattle.ternary.proofs.Reading.{readable-some}
-use Rattle.fields.specs.Packet.{Packet, packet}
+use Rattle.fields.specs.Packet.{Packet}
 use Rattle.running.specs.Run.{run, ranNumbers}
 use Rattle.running.specs.Claims.{Checked, Completes}
 use Rattle.running.specs.declared.Ran.{Ran}

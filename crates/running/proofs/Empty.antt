@@ -1,16 +1,15 @@
 -- A Run without arguments. Assumes nothing.
 use Prim.Native.Nat.{ℕ}
 use mathlib.Core.Path.{_≡_, refl, sym, ap, _∙_}
-use mathlib.Core.List.{List, [], _∷_, _++_, map}
+use mathlib.Core.List.{List, [], _∷_, map}
 use mathlib.Core.Option.{some}
 use native.Mathlib.Omega.{arith}
-use lib.ListN.{length, drop}
-use Rattle.calculus.specs.Tree.{Tree, size}
+use Rattle.calculus.specs.Tree.{Tree}
 use Rattle.calculus.specs.Rules.{ApplyAll, at-end, newNodesAll}
 use Rattle.calculus.specs.Term.{Term}
 use Rattle.calculus.specs.Bytes.{rule}
 use Rattle.calculus.specs.Abstraction.{ruleTree}
-use Rattle.ternary.specs.Text.{text, treeOf}
+use Rattle.ternary.specs.Text.{treeOf}
 use Rattle.ternary.proofs.OneText.{zero-one}
 use Rattle.fields.specs.Packet.{Packet, packet}
 use Rattle.running.specs.Run.{run}

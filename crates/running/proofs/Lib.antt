@@ -6,6 +6,7 @@ pub mod Stages
 pub mod Checks
 pub mod Refused
 pub mod Packets
+pub mod Cleared
 pub mod Direct
 pub mod Empty
 pub mod Complete

@@ -4,10 +4,9 @@ use mathlib.Core.Path.{_≡_, refl, ap}
 use mathlib.Core.Bool.{true, false}
 use mathlib.Core.List.{List}
 use mathlib.Core.Logic.{_↔_}
-use mathlib.Core.Option.{none, some}
+use mathlib.Core.Option.{none}
 use Rattle.calculus.specs.Tree.{Tree}
 use Rattle.calculus.specs.Term.{Term}
-use Rattle.calculus.specs.Bytes.{rule}
 use Rattle.table.specs.Outcome.{Outcome}
 use Rattle.table.specs.Refusal.{number, refusedNumbers, clears}
 use Rattle.table.specs.declared.Refusal.{Refusal}
@@ -20,7 +19,7 @@ use Rattle.applying.specs.Machine.{State}
 use Rattle.applying.specs.Lacks.{Lacks, no-place, all-held, Halts, limit-reached, at-use}
 use Rattle.fields.specs.Packet.{Packet, packet}
 use Rattle.running.specs.Run.{run, ranNumbers}
-use Rattle.running.specs.Claims.{Fit, Unreadable, Checked, ReadStops, no-nodes, no-frames, later, ApplyStops, Stops, translate-nodes, translate-frames, in-read, in-apply, in-write, Refuses, too-long, no-packet, no-rule, no-text, stops, Undid, BadRule, BadText}
+use Rattle.running.specs.Claims.{Fit, Checked, ReadStops, no-nodes, no-frames, later, ApplyStops, Stops, translate-nodes, translate-frames, in-read, in-apply, in-write, Refuses, too-long, no-packet, no-rule, no-text, stops, Undid, BadRule, BadText}
 use Rattle.running.specs.declared.Ran.{Ran}
 use Rattle.running.specs.declared.Ran.the-variants.{Refused}
 use Rattle.running.proofs.Outcomes.{Staged}
@@ -32,13 +31,13 @@ pub stops-by : (P : Refusal → Type 0) {w s o : List ℕ} {p : Packet} {t : Ter
     → {e : Refusal} {m : ℕ} → Stops w s o p t args e m → P e
 stops-by P a b c d (translate-nodes h) = b
 stops-by P a b c d (translate-frames h k) = c
-stops-by P a b c d (in-read r) = go r
+stops-by P a b c d (in-read i r) = go r
   where
     go : {w s : List ℕ} {u : ℕ} {ls : List (List ℕ)} {e : Refusal} {m : ℕ} → ReadStops w s u ls e m → P e
     go (no-nodes h) = b
     go (no-frames h k) = c
     go (later h k r) = go r
-stops-by P {w = w} {s = s} {p = p} {t = t} {args = args} a b c d (in-apply x h) = go (x .halts) x
+stops-by P {w = w} {s = s} {p = p} {t = t} {args = args} a b c d (in-apply i j x h k) = go (x .halts) x
   where
     lacked : {all : ℕ} {z : State} {e : Refusal} → Lacks all z e → P e
     lacked (no-place h l) = b
@@ -47,7 +46,7 @@ stops-by P {w = w} {s = s} {p = p} {t = t} {args = args} a b c d (in-apply x h) 
     go : {all limit : ℕ} {z : State} {e : Refusal} → Halts all limit z e → ApplyStops w s p t args e → P e
     go (limit-reached h l) x = a x
     go (at-use h l m) x = lacked m
-stops-by P a b c d (in-write x h r l) = go r
+stops-by P a b c d (in-write i j x h r k l) = go r
   where
     go : {all held n : ℕ} {r : Tree} {e : Refusal} → Spent all held r n (lacks e) → P e
     go (no-out h) = d

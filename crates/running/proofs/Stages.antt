@@ -13,8 +13,8 @@ use Rattle.calculus.specs.Term.{Term}
 use Rattle.calculus.specs.Bytes.{rule}
 use Rattle.calculus.specs.Abstraction.{ruleTree}
 use Rattle.calculus.proofs.Unique.{apply-unique, newNodes-unique, newNodesAll-unique}
-use Rattle.table.specs.Nodes.{Table, capacity, sound, Sound, treeAt}
-use Rattle.table.specs.Outcome.{Outcome, zeros}
+use Rattle.table.specs.Nodes.{Table, Placed, capacity, sound, Sound, treeAt, lay}
+use Rattle.table.specs.Outcome.{Outcome, frames, zeros, placed, laid}
 use Rattle.table.specs.declared.Refusal.{Refusal}
 use Rattle.table.specs.declared.Refusal.the-variants.{Nodes, Frames}
 use Rattle.table.specs.declared.Made.{Made}
@@ -22,26 +22,28 @@ use Rattle.table.specs.declared.Made.the-variants as made
 use Rattle.table.proofs.Trees.{Kept, kept-refl, kept-trans, Extends, extends-refl, extends-trans}
 use Rattle.table.proofs.Making.{Has, has, stays}
 use Rattle.table.proofs.Entry.{Entered, enters}
+use Rattle.ternary.specs.Text.{mostPending}
 use Rattle.ternary.specs.Read.{read, readable}
 use Rattle.ternary.specs.Write as write
-use Rattle.ternary.specs.Lacks.{ReadLacks, WriteLacks, WriteCase}
 use Rattle.ternary.proofs.OneText.{zero-one, length-text}
+use Rattle.ternary.specs.Lacks.{ReadLacks, WriteLacks, WriteCase}
 use Rattle.ternary.proofs.Reading.{some-readable, read-refused, read-lacks, read-gives}
 use Rattle.ternary.proofs.Writes.{write-case}
 use Rattle.translation.specs.Translate.{translate}
-use Rattle.translation.proofs.Translates.{translate-gives, translate-lacks, translate-refused}
 use Rattle.translation.specs.Lacks.{Lacks}
-use Rattle.applying.specs.Apply.{apply}
+use Rattle.translation.proofs.Translates.{translate-gives, translate-lacks, translate-refused}
+use Rattle.applying.specs.Machine as machine
+use Rattle.applying.specs.Apply.{begin, apply}
 use Rattle.applying.specs.declared.Applied.{Applied}
 use Rattle.applying.specs.declared.Applied.the-variants as applied
 use Rattle.applying.proofs.Follows.{apply-follows}
 use Rattle.applying.proofs.Complete.{steps-used-up}
 use Rattle.fields.specs.Packet.{Packet}
 use Rattle.running.specs.Run.{stopped, afterMade, afterApplied, afterWritten, writes, applies, reads, stages}
-use Rattle.running.specs.Claims.{Fit, total, nodesBy, ReadStops, no-nodes, no-frames, later, ApplyStops, Stops, translate-nodes, translate-frames, in-read, in-apply, in-write}
+use Rattle.running.specs.Claims.{Fit, total, nodesBy, ruleLaid, laidTable, laidNodes, madeAll, nodesMade, TranslateHad, ReadsHad, all-read, and-read, ReadStops, no-nodes, no-frames, later, ApplyStops, Stops, translate-nodes, translate-frames, in-read, in-apply, in-write}
 use Rattle.running.specs.declared.Ran.{Ran}
 use Rattle.running.specs.declared.Ran.the-variants.{Refused}
-use Rattle.running.proofs.Undone.{Back, back-same, back-cleared, apply-halts}
+use Rattle.running.proofs.Undone.{Back, back-same, back-cleared, apply-halts, all-on, all-stop}
 use Rattle.running.proofs.Outcomes.{Staged, stops, ends}
 
 -- Between two stages: the table z, whose words were found as w with no node in use, and the stack y, lent as s.
@@ -81,14 +83,28 @@ in-time after limit (and-next {a = a} x y) l n (and-next p q) =
     let h = in-time after (limit - a) y (omega arith) (λ h b z. omega (arith, n h b z)) (rw (← i .0) at q) in
     omega (arith, i .1)
 
--- Run applies: the trees before were applied to in k steps, and node v has their outcome.
-record Applying (w s : List ℕ) (p : Packet) (t : Term) (z : Table) (y : List ℕ) (v k : ℕ) (before : List Tree) : Type 0 where
+-- the table and the node of a tree that was laid out
+laid-place : (w : List ℕ) (u : ℕ) (s : List ℕ) (x : Tree) {q : Rattle.table.specs.Outcome.Outcome Made} {v u′ : ℕ} → q ≡ laid w u s x → q .answer ≡ made.Node v u′
+    → record { table = record { words = q .table; used = u′ }; node = v } ≡ lay (record { words = w; used = u }) x
+unfolding laid placed
+laid-place w u s x {q} {v} {u′} e h =
+    let m : Placed = lay (record { words = w; used = u }) x in
+    let a : m .node ≡ v = cc in
+    let b : m .table .used ≡ u′ = cc in
+    let c : q .table ≡ m .table .words = cc in
+    rw (← a, ← b, c)
+
+-- Run applies: the trees before were applied to in k steps, node v has their outcome, and the nodes ns are still to be applied to.
+record Applying (w s : List ℕ) (p : Packet) (t : Term) (args : List Tree) (z : Table) (y : List ℕ) (v k : ℕ) (before : List Tree) (ns : List ℕ) : Type 0 where
   stands : Stands w s z y
   tree : Tree
   root : Has z v tree
   so-far : ApplyAll (ruleTree t) before tree k
   within-limit : k ≤ p .limit
   used-is : z .used ≡ nodesBy p t so-far
+  all-made : z .used + madeAll (frames s) (p .limit - k) z v ns ≡ nodesMade w s p t args
+  translated : TranslateHad w s t
+  read-all : ReadsHad w s (size (ruleTree t)) (p .arguments)
 
 module _ {w s o : List ℕ} (fit : Fit w s o) (p : Packet) (t : Term) (args : List Tree) where
   enter : {z : Table} {y : List ℕ} → Stands w s z y → {within : Bool} → within ≡ true → Entered within (z .words) (z .used) y
@@ -102,19 +118,22 @@ module _ {w s o : List ℕ} (fit : Fit w s o) (p : Packet) (t : Term) (args : Li
       let c = back-cleared (st .extends) b in
       stops q (omega (arith, b .within, st .extends .kept .same-length)) (rw (c, l))
 
-  writes-staged : {z : Table} {y : List ℕ} {v k : ℕ} → Applying w s p t z y v k args → Staged w s o p t args (writes (z .words) (z .used) y o v k)
-  unfolding writes afterWritten
+  writes-staged : {z : Table} {y : List ℕ} {v k : ℕ} → Applying w s p t args z y v k args [] → Staged w s o p t args (writes (z .words) (z .used) y o v k)
+  unfolding writes afterWritten madeAll
   writes-staged {z} {y} {v} {k} a = go (write-case (z .words) (z .used) y v o)
     where
       st : Stands w s z y
       st = a .stands
+
+      made-all : z .used ≡ nodesMade w s p t args
+      made-all = omega (arith, a .all-made)
 
       lacked : {e : Refusal} {y′ : List ℕ} → WriteLacks (z .words) (z .used) y v o e y′ → (length y′ ≡ length s) × Stops w s o p t args e (z .used)
       lacked (WriteLacks.at-entry q) = zero-one (cc (enters (enter st (le-leb _ _ (fit .out)))))
       lacked (WriteLacks.no-node f h) = absurd (omega (arith, a .root .inside))
       lacked (WriteLacks.no-room f h x) = (
         zeros-length _ y refl ∙ st .stack,
-        in-write (a .so-far) (a .within-limit) (rw (a .root .tree, st .stack) at x) (a .used-is),
+        in-write (a .translated) (a .read-all) (a .so-far) (a .within-limit) (rw (a .root .tree, st .stack) at x) made-all (a .used-is),
       )
 
       go : WriteCase (z .words) (z .used) y v o (write.write (z .words) (z .used) y v o)
@@ -132,10 +151,11 @@ module _ {w s o : List ℕ} (fit : Fit w s o) (p : Packet) (t : Term) (args : Li
           }) refl)
 
   module _ (limited : p .limit ≤ 1000000) where
-    applies-staged : (ns : List ℕ) {after : List Tree} {z : Table} {y : List ℕ} {v k : ℕ} {before : List Tree} → HasAll z ns after → Applying w s p t z y v k before
+    applies-staged : (ns : List ℕ) {after : List Tree} {z : Table} {y : List ℕ} {v k : ℕ} {before : List Tree} → HasAll z ns after → Applying w s p t args z y v k before ns
         → args ≡ before ++ after → Staged w s o p t args (applies ns (p .limit) (z .words) (z .used) y o v k)
     unfolding applies afterApplied
-    applies-staged [] {before = before} no-more a m = writes-staged (rw (m ∙ append-nil before) a)
+    applies-staged [] {z = z} {y = y} {v = v} {k = k} {before = before} no-more a m =
+        writes-staged (subst (λ (b : List Tree). Applying w s p t args z y v k b []) (sym (m ∙ append-nil before)) a)
     applies-staged (n ∷ ns) {z = z} {y = y} {v = v} {k = k} {before = before} (and-then {x = x} {xs = xs} h hs) a m = go (r .answer) refl
         (λ (z : Table) (y : List ℕ) (v k : ℕ) (before : List Tree). applies-staged ns {after = xs} {z = z} {y = y} {v = v} {k = k} {before = before})
       where
@@ -146,12 +166,13 @@ module _ {w s o : List ℕ} (fit : Fit w s o) (p : Packet) (t : Term) (args : Li
         r = apply (z .words) (z .used) y v n (p .limit - k)
 
         go : (b : Applied) → r .answer ≡ b
-            → ((z : Table) (y : List ℕ) (v k : ℕ) (before : List Tree) → HasAll z ns xs → Applying w s p t z y v k before → args ≡ before ++ xs
+            → ((z : Table) (y : List ℕ) (v k : ℕ) (before : List Tree) → HasAll z ns xs → Applying w s p t args z y v k before ns → args ≡ before ++ xs
             → Staged w s o p t args (applies ns (p .limit) (z .words) (z .used) y o v k))
             → Staged w s o p t args (afterApplied (z .used) o r (λ w′ u′ s′ v′ j. applies ns (p .limit) w′ u′ s′ o v′ (k + j)) b)
         go (applied.Node v′ u′ j) e on =
             let q = apply-follows (z .words) (z .used) y v n (p .limit - k) v′ u′ j e in
             let d : Apply (a .tree) x (treeAt (r .table) v′) j = rw (a .root .tree, h .tree) at (q .applies) in
+            let less : p .limit - (k + j) ≡ p .limit - k - j = omega arith in
             on (record { words = r .table; used = u′ }) (r .stack) v′ (k + j) (before ++ (x ∷ [])) (all-stay (st .fine) (q .extends .kept) hs)
             (record {
               stands = record { fine = q .fine; extends = extends-trans (st .extends) (q .extends); stack = zeros-length _ y (q .stack) ∙ st .stack };
@@ -160,10 +181,15 @@ module _ {w s o : List ℕ} (fit : Fit w s o) (p : Packet) (t : Term) (args : Li
               so-far = apply-further (a .so-far) d;
               within-limit = omega (arith, q .within-limit, a .within-limit);
               used-is = omega (arith, q .used-is, a .used-is, newNodes-unique (a .root .tree) (h .tree) (q .applies) d, further-new (a .so-far) d);
+              all-made = rw less (sym (all-on (frames s) (p .limit - k) z v n ns (rw (st .stack) at (q .ends))) ∙ a .all-made);
+              translated = a .translated;
+              read-all = a .read-all;
             })
             (m ∙ sym (append-assoc before (x ∷ []) xs))
         go (applied.Refused e) q on =
-            let b = apply-halts (z .words) (z .used) y v n (p .limit - k) e (enter st (le-leb (p .limit - k) 1000000 (omega arith))) (a .root .inside) (h .inside) q in
+            let f = enter st (le-leb (p .limit - k) 1000000 (omega arith)) in
+            let b = apply-halts (z .words) (z .used) y v n (p .limit - k) e f (a .root .inside) (h .inside) q in
+            let c = all-stop (z .words) (z .used) y v n (p .limit - k) e f (a .root .inside) (h .inside) q ns in
             let d : ApplyAll (ruleTree t) before (treeAt (z .words) v) k = rw (a .root .tree) (a .so-far) in
             let i : z .used ≡ nodesBy p t d = omega (arith, a .used-is, newNodesAll-unique refl (a .so-far) d) in
             let x : ApplyStops w s p t args e =
@@ -187,17 +213,20 @@ module _ {w s o : List ℕ} (fit : Fit w s o) (p : Packet) (t : Term) (args : Li
               no-tree = λ c d. in-time xs (p .limit) (a .so-far) (a .within-limit)
                   (λ g i f. steps-used-up (z .words) (z .used) y v n (p .limit - k) (q ∙ ap applied.Refused c) (rw (← a .root .tree, ← h .tree) at f)) (rw m at d);
             } in
-            refuse st (r .stack) (in-apply x (rw (← st .stack) (omega (arith, i)))) (b .back) (zeros-length _ y (b .stack) ∙ st .stack)
+            let u : z .used + machine.made (frames y) (p .limit - k) (begin (z .words) (z .used) v n) ≡ nodesMade w s p t args =
+            rw (st .stack) (omega (arith, rw (st .stack) at c, a .all-made)) in
+            refuse st (r .stack) (in-apply (a .translated) (a .read-all) x u (rw (← st .stack) (omega (arith, i)))) (b .back) (zeros-length _ y (b .stack) ∙ st .stack)
 
   -- each text is read: the nodes have the texts' trees, and each digit is a node
   reads-staged : (ls : List (List ℕ)) (xs : List Tree) → map readable ls ≡ map some xs → {z : Table} {y : List ℕ} → Stands w s z y
       → ((e : Refusal) (m : ℕ) → ReadStops w s (z .used) ls e m → Stops w s o p t args e m)
       → (next : List ℕ → List ℕ → ℕ → List ℕ → Outcome Ran)
       → ((ns : List ℕ) (z′ : Table) (y′ : List ℕ) → Stands w s z′ y′ → Kept z z′ → HasAll z′ ns xs → z′ .used ≡ z .used + total ls
+      → z′ ≡ laidTable z xs → ns ≡ laidNodes z xs → ReadsHad w s (z .used) ls
       → Staged w s o p t args (next ns (z′ .words) (z′ .used) y′))
       → Staged w s o p t args (reads ls (z .words) (z .used) y o next)
-  unfolding reads afterMade total
-  reads-staged [] [] q {z} {y} st stop next on = on [] z y st (kept-refl z) no-more (omega arith)
+  unfolding reads afterMade total laidTable laidNodes
+  reads-staged [] [] q {z} {y} st stop next on = on [] z y st (kept-refl z) no-more (omega arith) refl refl all-read
   reads-staged [] (x ∷ xs) q st stop next on = zero-one (cc)
   reads-staged (l ∷ ls) [] q st stop next on = zero-one (cc)
   reads-staged (l ∷ ls) (x ∷ xs) q {z} {y} st stop next on = go (r .answer) refl
@@ -222,6 +251,7 @@ module _ {w s o : List ℕ} (fit : Fit w s o) (p : Packet) (t : Term) (args : Li
           → ((z : Table) (y : List ℕ) → Stands w s z y → ((e : Refusal) (m : ℕ) → ReadStops w s (z .used) ls e m → Stops w s o p t args e m)
           → (next : List ℕ → List ℕ → ℕ → List ℕ → Outcome Ran)
           → ((ns : List ℕ) (z′ : Table) (y′ : List ℕ) → Stands w s z′ y′ → Kept z z′ → HasAll z′ ns xs → z′ .used ≡ z .used + total ls
+          → z′ ≡ laidTable z xs → ns ≡ laidNodes z xs → ReadsHad w s (z .used) ls
           → Staged w s o p t args (next ns (z′ .words) (z′ .used) y′))
           → Staged w s o p t args (reads ls (z .words) (z .used) y o next))
           → Staged w s o p t args (afterMade (z .used) o r (λ w′ u′ s′ n. reads ls w′ u′ s′ o (λ ns. next (n ∷ ns))) a)
@@ -229,12 +259,15 @@ module _ {w s o : List ℕ} (fit : Fit w s o) (p : Packet) (t : Term) (args : Li
           let g = read-gives (z .words) (z .used) y l n u′ e in
           let c = g .places in
           let b : g .tree ≡ x = cc (some-readable (g .had .readable-as)) in
+          let f : record { table = record { words = r .table; used = u′ }; node = n } ≡ lay z x = laid-place (z .words) (z .used) y x (rw b at (g .laid-is)) e in
+          let i : length l ≤ capacity w - z .used = omega (arith, g .had .nodes-enough) in
+          let j : mostPending l ≤ frames s = omega (arith, g .had .frames-enough, st .stack) in
           rec (record { words = r .table; used = u′ }) (r .stack)
           (record { fine = c .fine; extends = extends-trans (st .extends) (c .extends); stack = zeros-length _ y (g .stack) ∙ st .stack })
-          (λ e m k. stop e m (later (omega (arith, g .had .nodes-enough)) (omega (arith, g .had .frames-enough, st .stack)) (rw (← g .used-is) k)))
+          (λ e m k. stop e m (later i j (rw (← g .used-is) k)))
           (λ ns. next (n ∷ ns))
-          (λ ns z′ y′ st′ k hs i. on (n ∷ ns) z′ y′ st′ (kept-trans (c .extends .kept) k)
-          (and-then (stays (c .fine) k (rw (← b) (has c))) hs) (omega (arith, g .used-is)))
+          (λ ns z′ y′ st′ k hs d a q m. on (n ∷ ns) z′ y′ st′ (kept-trans (c .extends .kept) k)
+          (and-then (stays (c .fine) k (rw (← b) (has c))) hs) (omega (arith, g .used-is)) (rw (← f) a) (rw (← f, q)) (and-read i j (rw (g .used-is) at m)))
       go (made.Refused e) q rec =
           let a = lacked (read-lacks (z .words) (z .used) y l e q) in
           refuse st (r .stack) (a .1) (back-same (st .fine) (read-refused (z .words) (z .used) y l e q)) (a .0)
@@ -269,18 +302,27 @@ module _ {w s o : List ℕ} (fit : Fit w s o) (p : Packet) (t : Term) (args : Li
           let b : g .term ≡ t = cc (g .is-rule) in
           let c = rw b at (g .lays .places) in
           let d : u′ ≡ size (ruleTree t) = omega (arith, g .lays .used-is, ap (λ (x : Term). size (ruleTree x)) b) in
+          let n = rw b at (g .had) in
+          let had : TranslateHad w s t = record { nodes-enough = omega (arith, n .nodes-enough); frames-enough = n .frames-enough } in
+          let f : record { table = record { words = r .table; used = u′ }; node = v } ≡ ruleLaid w t = laid-place w 0 s (ruleTree t) (rw b at (g .laid-is)) e in
           reads-staged (p .arguments) args texts
           {z = record { words = r .table; used = u′ }} {y = r .stack}
           (record { fine = c .fine; extends = c .extends; stack = zeros-length _ s (g .stack) })
-          (λ e m k. in-read (rw (← d) k))
+          (λ e m k. in-read had (rw (← d) k))
           (λ ns w″ u″ s″. applies ns (p .limit) w″ u″ s″ o v 0)
-          (λ ns z′ y′ st′ k hs i. applies-staged limited ns hs (record {
+          (λ ns z′ y′ st′ k hs i j h a. applies-staged limited ns hs (record {
             stands = st′;
             tree = ruleTree t;
             root = stays (c .fine) k (has c);
             so-far = at-end;
             within-limit = omega arith;
             used-is = omega arith;
+            all-made =
+                let l : z′ .used ≡ size (ruleTree t) + total (p .arguments) = omega (arith, i, d) in
+                let m : p .limit - 0 ≡ p .limit = omega arith in
+                rw (← f, ← j, ← h, m) (omega arith);
+            translated = had;
+            read-all = rw (← d) a;
           }) refl)
       go (made.Refused e) f =
           let a = lacked (translate-lacks w 0 s (p .rule) e f) in

@@ -1,26 +1,27 @@
 -- What a stage of Run that is refused leaves of the table, and what Run then leaves. Assumes nothing.
-use Prim.Native.Nat.{ℕ, _+_, _*_, _≤_, _<_}
+use Prim.Native.Nat.{ℕ, _+_, _-_, _*_, _≤_, _<_}
 use mathlib.Core.Path.{_≡_, refl, sym, _∙_}
 use mathlib.Core.Bool.{Bool, true, false}
-use mathlib.Core.List.{List}
+use mathlib.Core.List.{List, _∷_}
 use native.Mathlib.Omega.{arith}
 use lib.ListN.{length, getD}
 use lib.Seq.{ext-getD}
 use lib.Dec.{ltb, leb}
 use borrow.Author.Tests.{ltb-true, ltb-false}
-use Rattle.table.specs.Nodes.{Table, capacity, Sound, cleared}
-use Rattle.table.specs.Outcome.{frames, zeros}
+use Rattle.table.specs.Nodes.{Table, Placed, capacity, Sound, cleared}
+use Rattle.table.specs.Outcome.{frames, zeros, stopped}
 use Rattle.table.specs.declared.Refusal.{Refusal}
 use Rattle.table.proofs.Words.{cleared-none, length-cleared, cleared-inside, cleared-beyond}
 use Rattle.table.proofs.Trees.{Extends}
 use Rattle.table.proofs.Entry.{Entered}
 use Rattle.applying.specs.declared.Applied.the-variants.{Refused}
-use Rattle.applying.specs.Machine.{made}
-use Rattle.applying.specs.Apply.{begin, apply}
+use Rattle.applying.specs.Machine.{Turn, more, done, stop, uses, made}
+use Rattle.applying.specs.Apply.{settle, begin, apply}
 use Rattle.applying.specs.Lacks.{Halts, ApplyLacks, at-entry, halts}
-use Rattle.applying.proofs.States.{made-within}
-use Rattle.applying.proofs.Cases.{none-lacks, good-begin}
+use Rattle.applying.proofs.States.{uses-made, made-within}
+use Rattle.applying.proofs.Cases.{Ways, refused, ran, ways, none-lacks, good-begin}
 use Rattle.applying.proofs.Stops.{apply-lacks}
+use Rattle.running.specs.Claims.{madeOnwards, madeAll}
 
 -- The words x that a refused stage leaves where it found the table t: the words of the nodes up to m, made by it, are 0, and all others as found.
 pub record Back (t : Table) (m : ℕ) (x : List ℕ) : Type 0 where
@@ -105,3 +106,26 @@ apply-halts w u s f n limit e i h l q = go (apply-lacks w u s f n limit e q)
           stack = refl;
           halts = a;
         }
+
+-- one application and those after it: where it completes, they go on with its outcome; where it is refused, none follows
+pub all-on : (all limit : ℕ) (t : Table) (v n : ℕ) (ns : List ℕ) {p : Placed} {j : ℕ} → uses all limit (begin (t .words) (t .used) v n) ≡ done p j
+    → t .used + madeAll all limit t v (n ∷ ns) ≡ p .table .used + madeAll all (limit - j) (p .table) (p .node) ns
+unfolding madeAll madeOnwards
+all-on all limit t v n ns {p} e =
+    let u : p .table .used ≡ t .used + made all limit (begin (t .words) (t .used) v n) = rw e at (uses-made all limit (begin (t .words) (t .used) v n)) in
+    rw e (omega arith)
+
+pub all-stop : (w : List ℕ) (u : ℕ) (s : List ℕ) (f n limit : ℕ) (e : Refusal) → Entered (leb limit 1000000) w u s → f < u → n < u
+    → apply w u s f n limit .answer ≡ Refused e → (ns : List ℕ)
+    → madeAll (frames s) limit (record { words = w; used = u }) f (n ∷ ns) ≡ made (frames s) limit (begin w u f n)
+unfolding madeAll madeOnwards settle stopped
+all-stop w u s f n limit e i h l q ns = go (ways w u s f n limit)
+  where
+    by : (x : Turn) → settle u s x .answer ≡ Refused e → madeOnwards (λ p j. madeAll (frames s) (limit - j) (p .table) (p .node) ns) x ≡ 0
+    by (more z) r = refl
+    by (done p j) r = let z : _≡_ {A = ℕ} 0 1 = cc in absurd (omega arith)
+    by (stop c t) r = refl
+
+    go : Ways w u s f n limit → madeAll (frames s) limit (record { words = w; used = u }) f (n ∷ ns) ≡ made (frames s) limit (begin w u f n)
+    go (refused a r) = absurd (none-lacks i h l a)
+    go (ran j c d r) = omega (arith, by (uses (frames s) limit (begin w u f n)) (rw r at q))

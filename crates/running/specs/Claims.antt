@@ -12,7 +12,7 @@ use Rattle.calculus.specs.Term.{Term, parameters}
 use Rattle.calculus.specs.Bytes.{rule}
 use Rattle.calculus.specs.Abstraction.{ruleTree}
 use Rattle.calculus.specs.Runs.{Direct, difference}
-use Rattle.table.specs.Nodes.{Table, capacity, Sound, treeAt, cleared}
+use Rattle.table.specs.Nodes.{Table, Placed, capacity, Sound, treeAt, lay, cleared}
 use Rattle.table.specs.Outcome.{Outcome, wholeOut, frames, zeros}
 use Rattle.table.specs.declared.Refusal.{Refusal}
 use Rattle.table.specs.declared.Refusal.the-variants.{Limits, Rule, Steps, Nodes, Frames, Out}
@@ -21,7 +21,7 @@ use Rattle.ternary.specs.Text.{text, treeOf, mostPending}
 use Rattle.ternary.specs.Read.{readable}
 use Rattle.ternary.specs.Write.{lacks}
 use Rattle.ternary.specs.Held.{Spent}
-use Rattle.applying.specs.Machine.{made}
+use Rattle.applying.specs.Machine.{Turn, more, done, stop, uses, made}
 use Rattle.applying.specs.Apply.{begin}
 use Rattle.applying.specs.Lacks.{Halts}
 use Rattle.fields.specs.Packet.{Packet, packet}
@@ -58,6 +58,48 @@ total (l ∷ ls) = length l + total ls
 abbrev pub nodesBy : Packet → (t : Term) {args : List Tree} {r : Tree} {k : ℕ} → ApplyAll (ruleTree t) args r k → ℕ
 nodesBy p t d = size (ruleTree t) + total (p .arguments) + newNodesAll d
 
+-- Where Apply begins, the rule's tree and then the arguments' are laid: "Nodes lie as Read would lay its text." The table, and the arguments' nodes.
+abbrev pub ruleLaid : List ℕ → Term → Placed
+ruleLaid w t = lay (record { words = w; used = 0 }) (ruleTree t)
+
+unfoldable pub laidTable : Table → List Tree → Table
+laidTable z [] = z
+laidTable z (x ∷ xs) = laidTable (lay z x .table) xs
+
+unfoldable pub laidNodes : Table → List Tree → List ℕ
+laidNodes z [] = []
+laidNodes z (x ∷ xs) = lay z x .node ∷ laidNodes (lay z x .table) xs
+
+-- "Apply in order under one step limit": how many nodes are made where node v of the table z is applied to the first of the nodes ns, the outcome to the
+-- second, and so on, until that ends or a use lacks something. `all` frames are lent, and `limit` steps are left.
+unfoldable pub madeOnwards : (Placed → ℕ → ℕ) → Turn → ℕ
+madeOnwards next (more z) = 0
+madeOnwards next (done p j) = next p j
+madeOnwards next (stop e t) = 0
+
+unfoldable pub madeAll : ℕ → ℕ → Table → ℕ → List ℕ → ℕ
+madeAll all limit z v [] = 0
+madeAll all limit z v (n ∷ ns) =
+    made all limit (begin (z .words) (z .used) v n)
+    + madeOnwards (λ p j. madeAll all (limit - j) (p .table) (p .node) ns) (uses all limit (begin (z .words) (z .used) v n))
+
+-- the nodes made since Run's entry where Apply or Write stops: the rule's, one a digit of the arguments' texts, and those that the uses made
+abbrev pub nodesMade : List ℕ → List ℕ → Packet → Term → List Tree → ℕ
+nodesMade w s p t args =
+    size (ruleTree t) + total (p .arguments)
+    + madeAll (frames s) (p .limit) (laidTable (ruleLaid w t .table) args) (ruleLaid w t .node) (laidNodes (ruleLaid w t .table) args)
+
+-- What Translate had where it succeeds: "8: tree larger than the free nodes. 9: fewer than two frames for each node of the tree."
+pub record TranslateHad (w s : List ℕ) (t : Term) : Type 0 where
+  pub nodes-enough : size (ruleTree t) ≤ capacity w
+  pub frames-enough : 2 * size (ruleTree t) ≤ frames s
+
+-- What the Reads of the texts had where all succeed and u nodes are in use before: "8: more digits than free nodes. 9: fewer frames than the most trees
+-- pending".
+pub data ReadsHad (w s : List ℕ) : ℕ → List (List ℕ) → Type 0 where
+  all-read : {u : ℕ} → ReadsHad w s u []
+  and-read : {u : ℕ} {l : List ℕ} {ls : List (List ℕ)} → length l ≤ capacity w - u → mostPending l ≤ frames s → ReadsHad w s (u + length l) ls → ReadsHad w s u (l ∷ ls)
+
 -- What the Read of one of the texts lacks, where u nodes are in use before the first of them and m before that one: "8: more digits than free
 -- nodes. 9: fewer frames than the most trees pending". Each text before it has a node a digit.
 pub data ReadStops (w s : List ℕ) : ℕ → List (List ℕ) → Refusal → ℕ → Type 0 where
@@ -92,14 +134,16 @@ abbrev pub madeUntil : {w s : List ℕ} {p : Packet} {t : Term} {args : List Tre
 madeUntil {s = s} {p = p} x = made (frames s) (p .limit - x .k) (begin (x .table .words) (x .table .used) (x .function) (x .argument))
 
 -- What the first stage that cannot go on lacks, and the m nodes that were made since Run's entry: "Then Translate, Read of each argument, Apply in
--- order under one step limit, Write, each with its 7 to 10."
+-- order under one step limit, Write, each with its 7 to 10." The stages before it had what they needed.
 pub data Stops (w s o : List ℕ) (p : Packet) (t : Term) (args : List Tree) : Refusal → ℕ → Type 0 where
   translate-nodes : capacity w < size (ruleTree t) → Stops w s o p t args Nodes 0
   translate-frames : size (ruleTree t) ≤ capacity w → frames s < 2 * size (ruleTree t) → Stops w s o p t args Frames 0
-  in-read : {e : Refusal} {m : ℕ} → ReadStops w s (size (ruleTree t)) (p .arguments) e m → Stops w s o p t args e m
-  in-apply : {e : Refusal} {m : ℕ} (x : ApplyStops w s p t args e) → m ≡ nodesBy p t (x .so-far) + madeUntil x → Stops w s o p t args e m
-  in-write : {e : Refusal} {m : ℕ} {r : Tree} {k : ℕ} (d : ApplyAll (ruleTree t) args r k) → k ≤ p .limit → Spent (frames s) 0 r (length o) (lacks e)
-      → m ≡ nodesBy p t d → Stops w s o p t args e m
+  in-read : {e : Refusal} {m : ℕ} → TranslateHad w s t → ReadStops w s (size (ruleTree t)) (p .arguments) e m → Stops w s o p t args e m
+  in-apply : {e : Refusal} {m : ℕ} → TranslateHad w s t → ReadsHad w s (size (ruleTree t)) (p .arguments) → (x : ApplyStops w s p t args e)
+      → m ≡ nodesMade w s p t args → m ≡ nodesBy p t (x .so-far) + madeUntil x → Stops w s o p t args e m
+  in-write : {e : Refusal} {m : ℕ} {r : Tree} {k : ℕ} → TranslateHad w s t → ReadsHad w s (size (ruleTree t)) (p .arguments)
+      → (d : ApplyAll (ruleTree t) args r k) → k ≤ p .limit → Spent (frames s) 0 r (length o) (lacks e)
+      → m ≡ nodesMade w s p t args → m ≡ nodesBy p t d → Stops w s o p t args e m
 
 -- What was not so where Run refuses with e, and the whole outcome x: "1: lengths only. 6: packet broken. 5: its rule. 4: its arguments' texts, first to
 -- last." These "leave lent memory as found". Then a stage stops with 7 to 10: the words of the m nodes made since Run's entry are 0 and all others as
