@@ -51,7 +51,7 @@ stop-lacks all (suc k) s e t q = go (turn all s) refl (turn-lacks all s) (λ z. 
         (s, 0, omega arith, refl, sym b ∙ l .0, rw (← a) (l .1))
 
 -- the words of the nodes made since the table was t are cleared: of t's own words no other changes
-pub cleared-back : {t z : Table} → Extends t z → z .used ≤ capacity (z .words)
+cleared-back : {t z : Table} → Extends t z → z .used ≤ capacity (z .words)
     → cleared (z .words) (t .used * 2) (z .used * 2) ≡ cleared (t .words) (t .used * 2) (z .used * 2)
 cleared-back {t} {z} x h = ext-getD 0 (cleared (z .words) a b) (cleared (t .words) a b) (stopped-kept (x .kept) h .same-length ∙ sym same) (λ i l. go i (ltb i a) (ltb i b) refl refl)
   where
@@ -86,12 +86,12 @@ cleared-back {t} {z} x h = ext-getD 0 (cleared (z .words) a b) (cleared (t .word
         cleared-beyond (z .words) a b i up k long ∙ x .beyond i k ∙ sym (cleared-beyond (t .words) a b i up k as-long)
 
 -- the refusals of the uses are among those that clear memory
-pub lacks-clears : {all : ℕ} {z : State} {e : Refusal} → Lacks all z e → clears e ≡ true
+lacks-clears : {all : ℕ} {z : State} {e : Refusal} → Lacks all z e → clears e ≡ true
 unfolding clears number
 lacks-clears (no-place h k) = refl
 lacks-clears (all-held h k) = refl
 
-pub halts-clears : {all limit : ℕ} {s : State} {e : Refusal} → Halts all limit s e → clears e ≡ true
+halts-clears : {all limit : ℕ} {s : State} {e : Refusal} → Halts all limit s e → clears e ≡ true
 unfolding clears number
 halts-clears (limit-reached h k) = refl
 halts-clears (at-use h k l) = lacks-clears l
