@@ -1,5 +1,5 @@
-// The five rules on a table, one use at a time, and Apply as a definition, in specs/, and their theorems, in proofs/. Apply in code is the crate
-// `machine`.
+// The five rules on a table, one use at a time, and Apply as a definition, in specs/, and their theorems, in proofs/. Its code is in the crates
+// `frames`, `rules` and `machine`.
 use table::Refusal;
 
 // Which of the five rules applying a node takes, with the nodes that the rule names.
