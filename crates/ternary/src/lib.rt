@@ -1,4 +1,4 @@
-// Ternary text, Read and Write as definitions, in specs/, and their theorems, in proofs/. Read and Write in code are the crate `text`.
+// Ternary text, Read and Write as definitions, in specs/, and their theorems, in proofs/. Read in code is the crate `reader`, Write `writer`.
 use table::Refusal;
 
 // Write's answer: how many digits were written.
