@@ -1,6 +1,6 @@
 -- Where the rules give a tree in at most `limit` uses, Apply gives that tree or stops for nodes or frames. Assumes nothing.
 use Prim.Native.Nat.{ℕ, zero, suc, _+_, _≤_, _<_}
-use mathlib.Core.Path.{_≡_, refl, subst}
+use mathlib.Core.Path.{_≡_, refl, ap}
 use mathlib.Core.Bool.{Bool, true, false}
 use mathlib.Core.List.{List}
 use mathlib.Core.Logic.{_⊎_, inl, inr}
@@ -8,9 +8,10 @@ use native.Mathlib.Omega.{arith}
 use lib.Dec.{leb}
 use borrow.Author.Tests.{lt-ltb, leb-true, leb-false}
 use Rattle.calculus.specs.Tree.{Tree}
-use Rattle.calculus.specs.Rules.{Apply}
+use Rattle.calculus.specs.Rules.{Apply, newNodes}
 use Rattle.table.specs.Nodes.{treeAt}
 use Rattle.table.specs.Outcome.{frames, stopped}
+use Rattle.table.specs.Refusal.{number, clears}
 use Rattle.table.specs.declared.Refusal.{Refusal}
 use Rattle.table.specs.declared.Refusal.the-variants.{Steps, Nodes, Frames}
 use Rattle.table.proofs.Trees.{kept-refl}
@@ -18,10 +19,12 @@ use Rattle.table.proofs.Entry.{Entered, enters}
 use Rattle.applying.specs.declared.Applied.the-variants.{Node, Refused}
 use Rattle.applying.specs.Machine.{State, Turn, more, done, stop, turn, after, uses}
 use Rattle.applying.specs.Apply.{settle, begin, applyNodes, apply}
+use Rattle.applying.specs.Lacks.{Lacks, no-place, all-held}
 use Rattle.applying.specs.States.{Good}
+use Rattle.applying.specs.Claims.{Gives}
 use Rattle.applying.proofs.States.{tableOf, Later, turn-later, Counted, turn-steps}
 use Rattle.applying.proofs.Leads.{Leads, TurnLeads, leads-same, leads-after, uses-some, and-then}
-use Rattle.applying.proofs.Cases.{says-by, AtEntry, Ways, refused, ran, ways, good-begin}
+use Rattle.applying.proofs.Cases.{Ways, refused, ran, ways, entry-keeps, good-begin}
 use Rattle.applying.proofs.Stops.{stop-lacks}
 
 -- a run that leads to the tree o ends there after j steps, or stops
@@ -30,26 +33,23 @@ Ends o j (more z) = ⊥
 Ends o j (done p i) = (treeAt (p .table .words) (p .node) ≡ o) × (i ≡ j)
 Ends o j (stop e t) = Unit {0}
 
-uses-end : (m : ℕ) {all : ℕ} {s : State} → Good all s → (o : Tree) (k : ℕ)
-    → Leads (s .table .words) s o k → k ≤ m → Ends o (s .steps + k) (uses all m s)
+uses-end : (m : ℕ) {all : ℕ} {s : State} → Good all s → (o : Tree) (k n : ℕ)
+    → Leads (s .table .words) s o k n → k ≤ m → Ends o (s .steps + k) (uses all m s)
 unfolding uses after
-uses-end m g o zero x h = absurd (omega (arith, x .counted, uses-some (x .applies)))
-uses-end zero g o (suc k) x h = absurd (omega arith)
-uses-end (suc m) {all} {s} g o (suc k) x h =
+uses-end m g o zero n x h = absurd (omega (arith, x .counted, uses-some (x .applies)))
+uses-end zero g o (suc k) n x h = absurd (omega arith)
+uses-end (suc m) {all} {s} g o (suc k) n x h =
     let l = turn-later g in
-    go (turn all s) l (turn-steps all s) (leads-after g (l .fine) (kept-refl _) o k (leads-same g (l .extends .kept) o (suc k) x))
-    (λ (z : State) (y : Good all z) (d : Leads (z .table .words) z o k). uses-end m y o k d (omega arith))
+    let i = leads-after g (l .fine) (kept-refl _) o k n (leads-same g (l .extends .kept) o (suc k) n x) in
+    go (turn all s) l (turn-steps all s) (i .0) (i .1)
+    (λ (z : State) (y : Good all z) (d : Leads (z .table .words) z o k (i .0)). uses-end m y o k (i .0) d (omega arith))
   where
-    go : (x : Turn) → Later all (s .table) x → Counted (s .steps) 1 x → TurnLeads (tableOf x .words) o k (Unit {0}) x
-        → ((z : State) → Good all z → Leads (z .table .words) z o k → Ends o (z .steps + k) (uses all m z))
+    go : (x : Turn) → Later all (s .table) x → Counted (s .steps) 1 x → (n : ℕ) → TurnLeads (tableOf x .words) o k n (Unit {0}) x
+        → ((z : State) → Good all z → Leads (z .table .words) z o k n → Ends o (z .steps + k) (uses all m z))
         → Ends o (s .steps + suc k) (after (uses all m) x)
-    go (more z) l c d r = let q : s .steps + suc k ≡ z .steps + k = omega arith in rw q (r z (l .ready) d)
-    go (done p j) l c d r = (d .0, omega (arith, c, d .1))
-    go (stop e t) l c d r = tt
-
--- the answer is a node of the tree r after k steps
-abbrev pub Gives : List ℕ → ℕ → List ℕ → ℕ → ℕ → ℕ → Tree → ℕ → Type 0
-Gives w u s f n limit r k = (v : ℕ) × (u′ : ℕ) × (apply w u s f n limit .answer ≡ Node v u′ k) × (treeAt (apply w u s f n limit .table) v ≡ r)
+    go (more z) l c n d r = let q : s .steps + suc k ≡ z .steps + k = omega arith in rw q (r z (l .ready) d)
+    go (done p j) l c n d r = (d .0, omega (arith, c, d .1))
+    go (stop e t) l c n d r = tt
 
 -- Where the rules give a tree in at most `limit` uses, Apply gives that tree in as many steps or stops for nodes or frames: "Then 7, 8, 9 as the
 -- rules say."
@@ -59,7 +59,7 @@ pub apply-complete : {w : List ℕ} {u : ℕ} {s : List ℕ} {f n limit : ℕ} �
 unfolding apply applyNodes settle stopped
 apply-complete {w} {u} {s} {f} {n} {limit} e h l {r} {k} d m =
     rw (enters e, lt-ltb f u h, lt-ltb n u l)
-    (by (uses all limit b) refl (uses-end limit (good-begin e h l) r k (and-then 0 d (refl, refl) (omega arith)) m))
+    (by (uses all limit b) refl (uses-end limit (good-begin e h l) r k (newNodes d) (and-then 0 0 d (refl, refl, refl) (omega arith) (omega arith)) m))
   where
     all : ℕ
     all = frames s
@@ -67,19 +67,22 @@ apply-complete {w} {u} {s} {f} {n} {limit} e h l {r} {k} d m =
     b : State
     b = begin w u f n
 
+    lacked : {z : State} {c : Refusal} → Lacks all z c → (Refused c ≡ Refused Nodes) ⊎ (Refused c ≡ Refused Frames)
+    lacked (no-place h l) = inl refl
+    lacked (all-held h l) = inr refl
+
     by : (x : Turn) → uses all limit b ≡ x → Ends r (0 + k) x
         → ((v : ℕ) × (u′ : ℕ) × (settle u s x .answer ≡ Node v u′ k) × (treeAt (settle u s x .table) v ≡ r))
         ⊎ (settle u s x .answer ≡ Refused Nodes) ⊎ (settle u s x .answer ≡ Refused Frames)
     by (more z) q y = absurd y
     by (done p j) q y = let z : j ≡ k = omega (arith, y .1) in inl (p .node, p .table .used, rw z, y .0)
     by (stop c t) q y =
-        let l = stop-lacks all limit b c t q in
-        inr (says-by (λ (x : Refusal). (Refused x ≡ Refused Nodes) ⊎ (Refused x ≡ Refused Frames))
-        absurd absurd absurd absurd (λ x. inl refl) (λ x. inr refl) c (l .5))
+        inr (lacked (stop-lacks all limit b c t q .5))
 
 -- "refusal 7 if the step limit is reached": where Apply is refused for steps, the rules give no tree in `limit` uses or fewer.
 pub steps-used-up : (w : List ℕ) (u : ℕ) (s : List ℕ) (f n limit : ℕ) → apply w u s f n limit .answer ≡ Refused Steps
     → {r : Tree} {k : ℕ} → Apply (treeAt w f) (treeAt w n) r k → limit < k
+unfolding clears number
 steps-used-up w u s f n limit e {r} {k} d = go (ways w u s f n limit) (leb k limit) refl
   where
     never : Gives w u s f n limit r k ⊎ (apply w u s f n limit .answer ≡ Refused Nodes) ⊎ (apply w u s f n limit .answer ≡ Refused Frames) → ⊥
@@ -88,6 +91,6 @@ steps-used-up w u s f n limit e {r} {k} d = go (ways w u s f n limit) (leb k lim
     never (inr (inr x)) = let n : _≡_ {A = ℕ} 0 1 = cc in omega arith
 
     go : Ways w u s f n limit → (b : Bool) → leb k limit ≡ b → limit < k
-    go (refused c a q) b p = let x : c ≡ Steps = cc in absurd (subst AtEntry x a)
+    go (refused {e = c} a q) b p = let x : c ≡ Steps = cc in let z : _≡_ {A = ℕ} 0 1 = cc (entry-keeps a, ap clears x) in absurd (omega arith)
     go (ran i h l q) false p = leb-false k limit p
     go (ran i h l q) true p = absurd (never (apply-complete i h l d (leb-true k limit p)))

@@ -13,13 +13,14 @@ use Rattle.table.specs.declared.Refusal.{Refusal}
 use Rattle.table.specs.declared.Refusal.the-variants.{Nodes, Frames}
 use Rattle.table.proofs.Words.{sound-node}
 use Rattle.table.proofs.Trees.{Extends, extends-refl, extends-trans}
-use Rattle.table.proofs.Making.{Places, make-stem, make-fork}
+use Rattle.table.proofs.Making.{Places, make-used, make-stem, make-fork}
 use Rattle.applying.specs.declared.Rule.{Rule}
 use Rattle.applying.specs.declared.Rule.the-variants.{Leaf, Stem, Drop, Spread, Triage}
 use Rattle.applying.specs.declared.Frame.{Frame}
 use Rattle.applying.specs.declared.Frame.the-variants.{SpreadFirst, SpreadSecond, TriageFirst}
 use Rattle.applying.specs.States.{FrameIn, FramesIn, Good}
-use Rattle.applying.specs.Machine.{forkRule, rule, State, Turn, more, done, stop, resume, grow, hold, useRule, turn, after, uses}
+pub use Rattle.applying.specs.States.{tableOf, Counted}
+use Rattle.applying.specs.Machine.{forkRule, rule, needsNode, needsFrame, State, Turn, more, done, stop, resume, grow, hold, useRule, turn, after, uses, madeAfter, made}
 
 -- a choice by a test, with what the test says
 pub cond-by {ℓ} : {A : Type 0} (P : A → Type ℓ) (b : Bool) {x y : A} → (b ≡ true → P x) → (b ≡ false → P y) → P (cond b x y)
@@ -63,12 +64,6 @@ rule-in {t} s f h =
     words-by (RuleIn (t .used)) (first w f) (second w f) (λ e. tt) (λ e k. c)
     (λ e k. words-by (RuleIn (t .used)) (first w x) (second w x) (λ i. d)
     (λ i j. (omega (arith, b .first-in), d)) (λ i j. (omega (arith, b .first-in), omega (arith, b .second-in))))
-
--- the table that a turn leaves
-abbrev pub tableOf : Turn → Table
-tableOf (more z) = z .table
-tableOf (done p k) = p .table
-tableOf (stop e t) = t
 
 abbrev pub Ready : ℕ → Turn → Type 0
 Ready all (more z) = Good all z
@@ -146,21 +141,6 @@ uses-later (suc k) {all} {s} g = go (turn all s) (turn-later g) (λ (z : State) 
     go (done p j) l r = l
     go (stop e t) l r = l
 
--- what a rule needs: "one new node" (leaf and stem), or a frame ("Spread holds one frame [..], triage during its first")
-unfoldable pub needsNode : Rule → Bool
-needsNode Leaf = true
-needsNode (Stem p) = true
-needsNode (Drop y) = false
-needsNode (Spread p y) = false
-needsNode (Triage p q) = false
-
-unfoldable pub needsFrame : Rule → Bool
-needsFrame Leaf = false
-needsFrame (Stem p) = false
-needsFrame (Drop y) = false
-needsFrame (Spread p y) = true
-needsFrame (Triage p q) = true
-
 -- Every turn, from any state: a further application or an outcome with one step more, or a stop for a node or a frame that the rule needs.
 module _ (all : ℕ) (s : State) (P : Turn → Type 0)
     (goes-on : (z : State) → z .steps ≡ s .steps + 1 → P (more z))
@@ -189,12 +169,6 @@ module _ (all : ℕ) (s : State) (P : Turn → Type 0)
   unfolding turn
   turn-by = use-by (rule (s .table .words) (s .function))
 
--- how many steps were counted by a turn after at most k uses, where `from` were counted before
-abbrev pub Counted : ℕ → ℕ → Turn → Type 0
-Counted from k (more z) = z .steps ≡ from + k
-Counted from k (done p j) = (from < j) × (j ≤ from + k)
-Counted from k (stop e t) = Unit {0}
-
 -- "Each use is one step, counted when taken".
 pub turn-steps : (all : ℕ) (s : State) → Counted (s .steps) 1 (turn all s)
 turn-steps all s = turn-by all s (Counted (s .steps) 1) (λ z e. e) (λ p. omega arith) (λ a b. tt) (λ a b. tt)
@@ -215,6 +189,52 @@ uses-steps all (suc k) s = go (turn all s) (turn-steps all s) (uses-steps all k)
     go (more z) c r = on (z .steps) (uses all k z) c (r z)
     go (done p j) c r = omega arith
     go (stop e t) c r = tt
+
+-- The nodes in use after a turn: "one new node" (leaf and stem) where the rule needs one and the use is taken.
+module _ (all : ℕ) (s : State) where
+  abbrev Grew : ℕ → Turn → Type 0
+  Grew n x = tableOf x .used ≡ s .table .used + madeAfter (λ z. 0) n x
+
+  resume-grew : (n : ℕ) (t : Table) (fs : List Frame) (k v : ℕ) → t .used ≡ s .table .used + n → Grew n (resume t fs k v)
+  unfolding resume madeAfter
+  resume-grew n t [] k v e = e
+  resume-grew n t (SpreadFirst p m ∷ fs) k v e = omega arith
+  resume-grew n t (SpreadSecond u ∷ fs) k v e = omega arith
+  resume-grew n t (TriageFirst q ∷ fs) k v e = omega arith
+
+  grow-grew : (a b : ℕ) → Grew 1 (grow s a b)
+  unfolding grow madeAfter
+  grow-grew a b =
+      cond-by (Grew 1) (ltb (s .table .used) (capacity (s .table .words)))
+      (λ e. resume-grew 1 _ (s .frames) _ _ (make-used (s .table) a b)) (λ e. omega arith)
+
+  hold-grew : (e : Frame) (f n : ℕ) → Grew 0 (hold all s e f n)
+  unfolding hold madeAfter
+  hold-grew e f n = cond-by (Grew 0) (ltb (length (s .frames)) all) (λ e. omega arith) (λ e. omega arith)
+
+  use-grew : (r : Rule) → Grew (cond (needsNode r) 1 0) (useRule all s r)
+  unfolding useRule needsNode
+  use-grew Leaf = grow-grew (s .argument + 1) 0
+  use-grew (Stem p) = grow-grew (p + 1) (s .argument + 1)
+  use-grew (Drop y) = resume-grew 0 (s .table) (s .frames) _ y (omega arith)
+  use-grew (Spread p y) = hold-grew (SpreadFirst p (s .argument)) y (s .argument)
+  use-grew (Triage p q) = hold-grew (TriageFirst q) (s .argument) p
+
+-- "leaf: [..] one new node. stem: [..] one new node.": the nodes in use after at most k uses are those before and those made.
+pub uses-made : (all k : ℕ) (s : State) → tableOf (uses all k s) .used ≡ s .table .used + made all k s
+unfolding uses after turn made madeAfter
+uses-made all zero s = omega arith
+uses-made all (suc k) s = go _ (turn all s) (use-grew all s (rule (s .table .words) (s .function))) (uses-made all k)
+  where
+    go : (n : ℕ) (x : Turn) → Grew all s n x → ((z : State) → tableOf (uses all k z) .used ≡ z .table .used + made all k z)
+        → tableOf (after (uses all k) x) .used ≡ s .table .used + madeAfter (made all k) n x
+    go n (more z) e r = omega (arith, e, r z)
+    go n (done p j) e r = e
+    go n (stop c t) e r = e
+
+-- the nodes made had their places
+pub made-within : (k : ℕ) {all : ℕ} {s : State} → Good all s → s .table .used + made all k s ≤ capacity (s .table .words)
+made-within k {all} {s} g = let l = uses-later k g in omega (arith, uses-made all k s, l .fine .within, l .extends .kept .same-length)
 
 -- A run can be paused: at most a uses and then, from the state they left, at most b are at most a + b uses.
 pub uses-add : (all a b : ℕ) (s : State) → uses all (a + b) s ≡ after (uses all b) (uses all a s)

@@ -1,4 +1,6 @@
--- The machine, its states and Apply. Assumes nothing: these are definitions.
+-- The machine, its states, Apply, what it lacks where it is refused, and what it does where it completes. Assumes nothing: these are definitions.
 pub mod Machine
 pub mod States
 pub mod Apply
+pub mod Lacks
+pub mod Claims

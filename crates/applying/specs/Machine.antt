@@ -25,6 +25,22 @@ rule w f =
     (cond (eqb (second w f) 0) (Stem (first w f - 1))
     (forkRule w (first w f - 1) (second w f - 1)))
 
+-- What a rule needs: "one new node" (leaf and stem), or a frame ("Spread holds one frame during its first two applications, triage during its
+-- first").
+unfoldable pub needsNode : Rule → Bool
+needsNode Leaf = true
+needsNode (Stem p) = true
+needsNode (Drop y) = false
+needsNode (Spread p y) = false
+needsNode (Triage p q) = false
+
+unfoldable pub needsFrame : Rule → Bool
+needsFrame Leaf = false
+needsFrame (Stem p) = false
+needsFrame (Drop y) = false
+needsFrame (Spread p y) = true
+needsFrame (Triage p q) = true
+
 -- A state of an application: the table, the node applied and its argument, the frames held with the last one first, and the steps so far.
 pub record State : Type 0 where
   pub table : Table
@@ -81,3 +97,14 @@ after go (stop e t) = stop e t
 unfoldable pub uses : ℕ → ℕ → State → Turn
 uses all zero s = more s
 uses all (suc k) s = after (uses all k) (turn all s)
+
+-- How many nodes at most k uses make: "one new node" for each use of leaf and stem that is taken. A use that lacks something is not taken, and
+-- makes none.
+unfoldable pub madeAfter : (State → ℕ) → ℕ → Turn → ℕ
+madeAfter rest n (more s) = n + rest s
+madeAfter rest n (done p k) = n
+madeAfter rest n (stop e t) = 0
+
+unfoldable pub made : ℕ → ℕ → State → ℕ
+made all zero s = 0
+made all (suc k) s = madeAfter (made all k) (cond (needsNode (rule (s .table .words) (s .function))) 1 0) (turn all s)

@@ -4,4 +4,5 @@ pub mod Equations
 pub mod Size
 pub mod Rule
 pub mod Demand3
+pub mod Endless
 pub mod Vectors

@@ -4,7 +4,7 @@ use mathlib.Core.Path.{_≡_, refl}
 use mathlib.Core.List.{List, [], _∷_}
 use mathlib.Core.Option.{Option, none, some}
 use Rattle.calculus.specs.Tree.{Tree, leaf, stem, fork}
-use Rattle.calculus.specs.Rules.{Apply, by-leaf, by-stem, by-drop, by-spread, by-triage, Eval, of-tree, of-app, ApplyAll, at-end, and-next}
+use Rattle.calculus.specs.Rules.{Apply, by-leaf, by-stem, by-drop, by-spread, by-triage, Eval, of-tree, of-app, ApplyAll, at-end, and-next, newNodes, newNodesAll}
 use Rattle.calculus.specs.Term.{Term, app, abs, var, parameters, bodyUnder}
 use Rattle.calculus.specs.Term
 use Rattle.calculus.specs.Bytes.{bytes, abstraction, application, argument, parse, whole, rule}
@@ -18,6 +18,14 @@ triage-order = by-triage by-leaf by-stem
 -- spread applies the outcome of y to the outcome of p: 21100 on 10 gives 2102010
 pub spread-order : Apply (fork (stem (stem leaf)) leaf) (stem leaf) (fork (stem leaf) (fork leaf (stem leaf))) 4
 spread-order = by-spread by-leaf by-stem by-stem
+
+-- "212101021010; on 0 it gives 10 in 10 steps, 5 new nodes" (Depot examples)
+abbrev pub doubled : Apply (fork (stem (fork (stem leaf) (stem leaf))) (fork (stem leaf) (stem leaf))) leaf (stem leaf) 10
+doubled = by-spread (by-spread by-stem by-leaf by-drop) (by-spread by-stem by-leaf by-drop) by-leaf
+
+pub doubled-new : newNodesAll (and-next doubled at-end) ≡ 5
+unfolding newNodes newNodesAll
+doubled-new = refl
 
 -- 02 01 00 03 00, λx.Δx: the function part of an application stands before its argument
 pub stem-rule : rule (2 ∷ 1 ∷ 0 ∷ 3 ∷ 0 ∷ []) ≡ some (abs (app Term.leaf (var 0)))

@@ -31,3 +31,16 @@ pub data Eval : Closed → Tree → ℕ → Type 0 where
 pub data ApplyAll : Tree → List Tree → Tree → ℕ → Type 0 where
   at-end : {f : Tree} → ApplyAll f [] f 0
   and-next : {f N g r : Tree} {Ns : List Tree} {a b : ℕ} → Apply f N g a → ApplyAll g Ns r b → ApplyAll f (N ∷ Ns) r (a + b)
+
+-- "leaf: f = Δ gives ΔN, one new node. stem: f = Δp gives ΔpN, one new node." The other rules make none of their own: the new nodes of an
+-- application are those of its uses of leaf and stem.
+unfoldable pub newNodes : {f N r : Tree} {k : ℕ} → Apply f N r k → ℕ
+newNodes by-leaf = 1
+newNodes by-stem = 1
+newNodes by-drop = 0
+newNodes (by-spread x y z) = newNodes x + newNodes y + newNodes z
+newNodes (by-triage x y) = newNodes x + newNodes y
+
+unfoldable pub newNodesAll : {f r : Tree} {Ns : List Tree} {k : ℕ} → ApplyAll f Ns r k → ℕ
+newNodesAll at-end = 0
+newNodesAll (and-next x y) = newNodes x + newNodesAll y

@@ -1,4 +1,5 @@
 -- Demand 3 in lists of calls, and what it rests on.
 pub mod Tables
 pub mod Lists
-pub mod Lying
+pub mod AsRead
+pub mod Vectors

@@ -1,28 +1,30 @@
 -- Demand 3 in lists of Read, Translate and Apply calls on one table, whole. Assumes nothing.
-use Prim.Native.Nat.{ℕ, _+_, _*_, _≤_, _<_}
-use mathlib.Core.Path.{_≡_, refl, sym, ap, _∙_, subst}
-use mathlib.Core.List.{List, [], _∷_, _++_, map}
-use mathlib.Core.Option.{Option, none, some}
+use Prim.Native.Nat.{ℕ, _+_, _≤_, _<_}
+use mathlib.Core.Path.{_≡_, refl, sym, ap, ap₂, _∙_, subst}
+use mathlib.Core.List.{List, [], _∷_, _++_, map, append-assoc}
+use mathlib.Core.Logic.{_⊎_, inl, inr, ⊎-elim}
+use mathlib.Core.Option.{some}
 use native.Mathlib.Omega.{arith}
 use lib.ListN.{length, length-map}
 use Rattle.calculus.specs.Tree.{Tree}
 use Rattle.calculus.specs.Rules.{Apply, ApplyAll}
 use Rattle.calculus.specs.Rules as rules
-use Rattle.calculus.specs.Term.{Term, parameters}
+use Rattle.calculus.specs.Term.{Term}
 use Rattle.calculus.specs.Bytes.{rule}
 use Rattle.calculus.specs.Abstraction.{ruleTree}
-use Rattle.calculus.specs.Runs.{Direct, Translated, difference}
+use Rattle.calculus.specs.Runs.{Translated}
 use Rattle.calculus.proofs.Rule.{rule-leads}
 use Rattle.calculus.proofs.Demand3.{demand-3}
 use Rattle.table.specs.Nodes.{Table, Sound, treeAt}
 use Rattle.table.proofs.Trees.{kept-tree}
-use Rattle.table.proofs.Making.{Has, stays}
-use Rattle.ternary.specs.Text.{treeOf}
+use Rattle.table.proofs.Making.{Has, size-pos}
+use Rattle.ternary.proofs.OneText.{whole-text, length-text}
 use Rattle.ternary.proofs.Reading.{read-gives}
 use Rattle.translation.proofs.Translates.{translate-gives}
 use Rattle.applying.proofs.Follows.{apply-follows}
 use Rattle.calls.specs.Calls.{Call, left, leftBy, Argument, argumentTree, Applied, at-end, applies, Completed, translates, Gave, reads}
 use Rattle.calls.specs.Calls as calls
+use Rattle.calls.specs.Claim.{ArgumentTrees, of-node, of-read, Claim, ListClaim}
 use Rattle.calls.proofs.Tables.{left-goes, left-read, left-translate, left-apply, stays-by}
 
 -- the same trees by another name
@@ -52,36 +54,6 @@ applied-all {t = t} s h (applies {before = before} {s = st} {f = f} {n = n} {lim
     rules.and-next (q .applies)
     (applies-as (ap (λ (y : Table). treeAt (y .words) v) l) (applied-all (rw l (q .fine)) (rw l (q .inside)) a))
 
--- What is claimed of a run that is completed in a list of calls from the table t: of the rule b, on the arguments args, with the tree r of the
--- last node given, in k steps. "The planner's run then has a tree, and it is this one; for n = 1 the steps that Apply returned are the
--- planner's plus 2L + 5X − 1." (The two runs of demand 3)
-pub record Claim (t : Table) (b : List ℕ) (args : List Argument) (r : Tree) (k : ℕ) : Type 0 where
-  pub term : Term
-  pub is-rule : rule b ≡ some term
-  pub direct : 1 ≤ length args → length args ≤ parameters term → (j : ℕ) × Direct term (map (argumentTree t) args) r j
-  pub steps : length args ≡ 1 → (j : ℕ) → Direct term (map (argumentTree t) args) r j → k ≡ j + difference term
-
-claim : {z : Table} {b : List ℕ} {args : List Argument} {r : Tree} {k : ℕ} → (t : Term) → rule b ≡ some t → ApplyAll (ruleTree t) (map (argumentTree z) args) r k → Claim z b args r k
-unfolding Translated
-claim {z} {b} {args} {r} {k} t e a =
-    let n : length (map (argumentTree z) args) ≡ length args = length-map args (argumentTree z) in
-    record {
-      term = t;
-      is-rule = e;
-      direct = λ h l. demand-3 b t e (map (argumentTree z) args) (omega arith) (omega arith) r .0 .0 (k, a);
-      steps = λ o j d. demand-3 b t e (map (argumentTree z) args) (omega arith) (omega (arith, rule-leads b e)) r .1 k j (n ∙ o) a d;
-    }
-
-completed : {t : Table} {before cs : List Call} {b : List ℕ} {args : List Argument} {r : Tree} {k : ℕ} → Completed t before cs b args r k → Claim t b args r k
-completed (Completed.other c) = completed c
-completed {t = t} (translates {before = before} {s = s} {b = b} {v = v} {u = u} e a) =
-    let y = leftBy before t in
-    let q = translate-gives (y .words) (y .used) s b v u e in
-    let z = leftBy-more before (calls.translate s b) t ∙ left-translate s b y e in
-    let p = q .lays .places in
-    claim (q .term) (q .is-rule)
-    (applies-as (ap (λ (x : Table). treeAt (x .words) v) z ∙ p .tree) (applied-all (rw z (p .fine)) (rw z (p .inside)) a))
-
 -- a node that a Read gave keeps the tree of its text
 given : {cs : List Call} {t : Table} {v : ℕ} {x : Tree} → Gave cs t v x → treeAt (leftBy cs t .words) v ≡ x
 unfolding leftBy
@@ -93,14 +65,74 @@ given (reads {s = s} {l = l} {v = v} {u = u} {cs = cs} {t = t} {x = x} e w) =
     let h : Has (left (calls.read s l) t) v x = rw (left-read s l t e) (record { inside = p .inside; tree = p .tree ∙ y }) in
     stays-by cs (rw (left-read s l t e) (p .fine)) h .tree
 
--- "That is a single claim about the whole list, and not one for each call." `of-runs`: every run that is completed in the list. `of-reads`: "for a
--- node that a Read in the list gave, this is the tree of that Read's text", where the Read stands before the Apply; it is stated of any argument, those
--- of the list's runs among them.
-pub record ListClaim (cs : List Call) (t : Table) : Type 0 where
-  pub of-runs : (b : List ℕ) (args : List Argument) (r : Tree) (k : ℕ) → Completed t [] cs b args r k → Claim t b args r k
-  pub of-reads : (a : Argument) (x : Tree) → Gave (a .before) t (a .node) x → argumentTree t a ≡ x
+-- a Read of a list that is in two parts stands in one of them
+gave-in : (before rest : List Call) {t : Table} {v : ℕ} {x : Tree} → Gave (before ++ rest) t v x → Gave before t v x ⊎ Gave rest (leftBy before t) v x
+unfolding leftBy
+gave-in [] rest g = inr g
+gave-in (c ∷ before) rest (Gave.other g) = ⊎-elim (λ a. inl (Gave.other a)) inr (gave-in before rest g)
+gave-in (calls.read s l ∷ before) rest (reads e w) = inl (reads e w)
 
--- Demand 3 in lists of calls: from any words and any used, refused calls included.
-pub demand-3-in-lists : (cs : List Call) (t : Table) → ListClaim cs t
+-- a node that a Read gave was not in use before it, since node numbers only grow
+pub gave-new : {cs : List Call} {t : Table} {v : ℕ} {x : Tree} → Gave cs t v x → t .used ≤ v
+gave-new (Gave.other {c = c} {t = t} g) = omega (arith, left-goes c t .kept .up, gave-new g)
+gave-new (reads {s = s} {l = l} {v = v} {u = u} {t = t} {x = x} e w) =
+    omega (arith, read-gives (t .words) (t .used) s l v u e .node-is, length-text x, ap length (whole-text l x w), size-pos x)
+
+-- A node in use after the calls `before`, which a Read anywhere in the list gave, has the tree of that Read's text: it was given before, since a later
+-- Read gives another node.
+pub gave-tree : (before rest : List Call) {t : Table} {n : ℕ} {x : Tree} → n < leftBy before t .used → Gave (before ++ rest) t n x
+    → treeAt (leftBy before t .words) n ≡ x
+gave-tree before rest h g = ⊎-elim given (λ a. let l = gave-new a in absurd (omega arith)) (gave-in before rest g)
+
+-- the trees of the arguments of the Apply calls are those of the nodes, also where they are named by Reads
+trees-agree : {t : Table} {before cs : List Call} {f : ℕ} {args : List Argument} {r : Tree} {k : ℕ} → Applied t before cs f args r k
+    → (xs : List Tree) → ArgumentTrees (before ++ cs) t args xs → xs ≡ map (argumentTree t) args
 unfolding argumentTree
-demand-3-in-lists cs t = record { of-runs = λ b args r k c. completed c; of-reads = λ a x g. given g }
+trees-agree at-end xs ArgumentTrees.at-end = refl
+trees-agree (Applied.other a) xs n = trees-agree a xs (rw append-assoc n)
+trees-agree {t = t} (applies {before = before} {s = s} {f = f} {n = n} {limit = limit} {v = v} {u = u} {j = j} {cs = cs} {args = args} e a) xs m =
+    go m (λ ys p. trees-agree a ys (rw append-assoc p))
+  where
+    y : Argument
+    y = record { before = before; node = n }
+
+    go : {xs : List Tree} → ArgumentTrees (before ++ (calls.apply s f n limit ∷ cs)) t (y ∷ args) xs
+        → ((ys : List Tree) → ArgumentTrees (before ++ (calls.apply s f n limit ∷ cs)) t args ys → ys ≡ map (argumentTree t) args)
+        → xs ≡ argumentTree t y ∷ map (argumentTree t) args
+    go (of-node {xs = ys} p) next = ap (λ (l : List Tree). argumentTree t y ∷ l) (next ys p)
+    go (of-read {xs = ys} g p) next =
+        let z = leftBy before t in
+        ap₂ (λ (x : Tree) (l : List Tree). x ∷ l) (sym (gave-tree before _ (apply-follows (z .words) (z .used) s f n limit v u j e .argument-in) g)) (next ys p)
+
+-- a run of the five rules on the arguments' trees, by whatever name
+claim : {cs : List Call} {z : Table} {b : List ℕ} {args : List Argument} {r : Tree} {k : ℕ} → (t : Term) → rule b ≡ some t
+    → ((xs : List Tree) → ArgumentTrees cs z args xs → xs ≡ map (argumentTree z) args)
+    → ApplyAll (ruleTree t) (map (argumentTree z) args) r k → Claim cs z b args r k
+unfolding Translated
+claim {cs} {z} {b} {args} {r} {k} t e m a =
+    let n : length (map (argumentTree z) args) ≡ length args = length-map args (argumentTree z) in
+    record {
+      term = t;
+      is-rule = e;
+      of-reads = m;
+      direct = λ xs p h l. rw (m xs p) (demand-3 b t e (map (argumentTree z) args) (omega arith) (omega arith) r .0 .0 (k, a));
+      steps = λ xs p o j d.
+          demand-3 b t e (map (argumentTree z) args) (omega arith) (omega (arith, rule-leads b e)) r .1 k j (n ∙ o) a (rw (m xs p) at d);
+    }
+
+completed : {t : Table} {before cs : List Call} {b : List ℕ} {args : List Argument} {r : Tree} {k : ℕ} → Completed t before cs b args r k
+    → Claim (before ++ cs) t b args r k
+completed (Completed.other a) = rw append-assoc at (completed a)
+completed {t = t} (translates {before = before} {s = s} {b = b} {v = v} {u = u} {cs = cs} {args = args} e a) =
+    let y = leftBy before t in
+    let q = translate-gives (y .words) (y .used) s b v u e in
+    let z = leftBy-more before (calls.translate s b) t ∙ left-translate s b y e in
+    let p = q .lays .places in
+    claim (q .term) (q .is-rule)
+    (λ xs m. trees-agree a xs (rw append-assoc m))
+    (applies-as (ap (λ (x : Table). treeAt (x .words) v) z ∙ p .tree) (applied-all (rw z (p .fine)) (rw z (p .inside)) a))
+
+-- "That is a single claim about the whole list, and not one for each call." Demand 3 in lists of calls: from any words and any used, refused calls
+-- included.
+pub demand-3-in-lists : (cs : List Call) (t : Table) → ListClaim cs t
+demand-3-in-lists cs t b args r k c = completed c

@@ -1,27 +1,26 @@
 -- What a list of calls keeps of the table, refused calls included. Assumes nothing.
-use Prim.Native.Nat.{ℕ, _+_, _*_, _≤_, _<_}
-use mathlib.Core.Path.{_≡_, refl, sym, ap, ap₂, _∙_, subst}
+use Prim.Native.Nat.{ℕ}
+use mathlib.Core.Path.{_≡_, refl, ap, _∙_}
 use mathlib.Core.List.{List, [], _∷_}
 use native.Mathlib.Omega.{arith}
 use lib.ListN.{length}
 use Rattle.calculus.specs.Tree.{Tree}
-use Rattle.table.specs.Nodes.{Table, Sound, sound, treeAt}
-use Rattle.table.specs.Outcome.{Outcome}
+use Rattle.table.specs.Nodes.{Table, Sound, sound}
 use Rattle.table.specs.Refusal.{Numbers, madeNumbers, refusedNumbers}
 use Rattle.table.specs.declared.Refusal.{Refusal}
 use Rattle.table.specs.declared.Made.{Made}
 use Rattle.table.specs.declared.Made.the-variants as made
 use Rattle.table.proofs.Words.{sound-same}
 use Rattle.table.proofs.Trees.{Kept, kept-refl, kept-trans}
-use Rattle.table.proofs.Making.{Places, Has, has, stays}
-use Rattle.ternary.specs.Read as text
-use Rattle.ternary.proofs.Reading.{Reads, read-gives, read-refused}
-use Rattle.translation.specs.Translate as term
-use Rattle.translation.proofs.Translates.{Translates, translate-gives, translate-refused}
-use Rattle.applying.specs.Apply as machine
+use Rattle.table.proofs.Making.{Places, Has, stays}
+use Rattle.ternary.specs.Read as ternary
+use Rattle.ternary.proofs.Reading.{read-gives, read-refused}
+use Rattle.translation.specs.Translate as translation
+use Rattle.translation.proofs.Translates.{translate-gives, translate-refused}
+use Rattle.applying.specs.Apply as applying
 use Rattle.applying.specs.declared.Applied.{Applied as Answer}
 use Rattle.applying.specs.declared.Applied.the-variants as applied
-use Rattle.applying.proofs.Follows.{Follows, apply-follows, apply-refused}
+use Rattle.applying.proofs.Follows.{apply-follows, apply-refused}
 use Rattle.calls.specs.Calls.{Call, read, translate, apply, left, leftBy}
 
 -- z has all nodes of t as they were, and is sound where t is
@@ -56,38 +55,38 @@ same-words : {t : Table} {w : List ℕ} → w ≡ t .words → Kept t (record { 
 same-words {t} e = rw e (kept-refl t)
 
 -- what a call leaves where its answer is known
-pub left-read : (s l : List ℕ) (t : Table) {v u : ℕ} → text.read (t .words) (t .used) s l .answer ≡ made.Node v u
-    → left (read s l) t ≡ record { words = text.read (t .words) (t .used) s l .table; used = u }
+pub left-read : (s l : List ℕ) (t : Table) {v u : ℕ} → ternary.read (t .words) (t .used) s l .answer ≡ made.Node v u
+    → left (read s l) t ≡ record { words = ternary.read (t .words) (t .used) s l .table; used = u }
 unfolding left madeNumbers
 left-read s l t e = rw e
 
-pub left-translate : (s b : List ℕ) (t : Table) {v u : ℕ} → term.translate (t .words) (t .used) s b .answer ≡ made.Node v u
-    → left (translate s b) t ≡ record { words = term.translate (t .words) (t .used) s b .table; used = u }
+pub left-translate : (s b : List ℕ) (t : Table) {v u : ℕ} → translation.translate (t .words) (t .used) s b .answer ≡ made.Node v u
+    → left (translate s b) t ≡ record { words = translation.translate (t .words) (t .used) s b .table; used = u }
 unfolding left madeNumbers
 left-translate s b t e = rw e
 
-pub left-apply : (s : List ℕ) (f n limit : ℕ) (t : Table) {v u j : ℕ} → machine.apply (t .words) (t .used) s f n limit .answer ≡ applied.Node v u j
-    → left (apply s f n limit) t ≡ record { words = machine.apply (t .words) (t .used) s f n limit .table; used = u }
-unfolding left machine.appliedNumbers
+pub left-apply : (s : List ℕ) (f n limit : ℕ) (t : Table) {v u j : ℕ} → applying.apply (t .words) (t .used) s f n limit .answer ≡ applied.Node v u j
+    → left (apply s f n limit) t ≡ record { words = applying.apply (t .words) (t .used) s f n limit .table; used = u }
+unfolding left applying.appliedNumbers
 left-apply s f n limit t e = rw e
 
 -- "Each call gets the words and the used that the last one left": no call, refused or not, takes a node's tree away.
 pub left-goes : (c : Call) (t : Table) → Goes t (left c t)
-unfolding left madeNumbers machine.appliedNumbers refusedNumbers
-left-goes (read s l) t = go (text.read (t .words) (t .used) s l .answer) refl
+unfolding left madeNumbers applying.appliedNumbers refusedNumbers
+left-goes (read s l) t = go (ternary.read (t .words) (t .used) s l .answer) refl
   where
-    go : (a : Made) → text.read (t .words) (t .used) s l .answer ≡ a → Goes t (record { words = text.read (t .words) (t .used) s l .table; used = madeNumbers (t .used) a .used })
+    go : (a : Made) → ternary.read (t .words) (t .used) s l .answer ≡ a → Goes t (record { words = ternary.read (t .words) (t .used) s l .table; used = madeNumbers (t .used) a .used })
     go (made.Node v u) e = placed-goes (read-gives (t .words) (t .used) s l v u e .places)
     go (made.Refused r) e = refused-goes (same-words (read-refused (t .words) (t .used) s l r e))
-left-goes (translate s b) t = go (term.translate (t .words) (t .used) s b .answer) refl
+left-goes (translate s b) t = go (translation.translate (t .words) (t .used) s b .answer) refl
   where
-    go : (a : Made) → term.translate (t .words) (t .used) s b .answer ≡ a → Goes t (record { words = term.translate (t .words) (t .used) s b .table; used = madeNumbers (t .used) a .used })
+    go : (a : Made) → translation.translate (t .words) (t .used) s b .answer ≡ a → Goes t (record { words = translation.translate (t .words) (t .used) s b .table; used = madeNumbers (t .used) a .used })
     go (made.Node v u) e = placed-goes (translate-gives (t .words) (t .used) s b v u e .lays .places)
     go (made.Refused r) e = refused-goes (same-words (translate-refused (t .words) (t .used) s b r e))
-left-goes (apply s f n limit) t = go (machine.apply (t .words) (t .used) s f n limit .answer) refl
+left-goes (apply s f n limit) t = go (applying.apply (t .words) (t .used) s f n limit .answer) refl
   where
-    go : (a : Answer) → machine.apply (t .words) (t .used) s f n limit .answer ≡ a
-        → Goes t (record { words = machine.apply (t .words) (t .used) s f n limit .table; used = machine.appliedNumbers (t .used) a .used })
+    go : (a : Answer) → applying.apply (t .words) (t .used) s f n limit .answer ≡ a
+        → Goes t (record { words = applying.apply (t .words) (t .used) s f n limit .table; used = applying.appliedNumbers (t .used) a .used })
     go (applied.Node v u j) e =
         let q = apply-follows (t .words) (t .used) s f n limit v u j e in
         record { kept = q .extends .kept; sound-too = λ x. q .fine }

@@ -6,14 +6,13 @@ use mathlib.Core.List.{List, [], _∷_, _++_}
 use mathlib.Core.Option.{some}
 use Rattle.calculus.specs.Tree.{Tree}
 use Rattle.table.specs.Nodes.{Table, treeAt}
-use Rattle.table.specs.Outcome.{Outcome}
 use Rattle.table.specs.Refusal.{madeNumbers}
 use Rattle.table.specs.declared.Made.the-variants as made
 use Rattle.applying.specs.declared.Applied.the-variants as applied
 use Rattle.ternary.specs.Text.{treeOf}
-use Rattle.ternary.specs.Read as text
-use Rattle.translation.specs.Translate as term
-use Rattle.applying.specs.Apply as machine
+use Rattle.ternary.specs.Read as ternary
+use Rattle.translation.specs.Translate as translation
+use Rattle.applying.specs.Apply as applying
 
 -- A call with all that its caller chooses: the stack's words, and the text, the bytes or the two node numbers and the step limit.
 pub data Call : Type 0 where
@@ -24,14 +23,14 @@ pub data Call : Type 0 where
 -- "Each call gets the words and the used that the last one left": what a call leaves of them, refused or not
 unfoldable pub left : Call → Table → Table
 left (read s l) t =
-    let o = text.read (t .words) (t .used) s l in
+    let o = ternary.read (t .words) (t .used) s l in
     record { words = o .table; used = madeNumbers (t .used) (o .answer) .used }
 left (translate s b) t =
-    let o = term.translate (t .words) (t .used) s b in
+    let o = translation.translate (t .words) (t .used) s b in
     record { words = o .table; used = madeNumbers (t .used) (o .answer) .used }
 left (apply s f n limit) t =
-    let o = machine.apply (t .words) (t .used) s f n limit in
-    record { words = o .table; used = machine.appliedNumbers (t .used) (o .answer) .used }
+    let o = applying.apply (t .words) (t .used) s f n limit in
+    record { words = o .table; used = applying.appliedNumbers (t .used) (o .answer) .used }
 
 -- what a list of calls leaves
 unfoldable pub leftBy : List Call → Table → Table
@@ -55,7 +54,7 @@ pub data Applied (t : Table) : List Call → List Call → ℕ → List Argument
       → Applied t (before ++ (c ∷ [])) cs f args r k
       → Applied t before (c ∷ cs) f args r k
   applies : {before : List Call} {s : List ℕ} {f n limit v u j : ℕ} {cs : List Call} {args : List Argument} {r : Tree} {k : ℕ}
-      → machine.apply (leftBy before t .words) (leftBy before t .used) s f n limit .answer ≡ applied.Node v u j
+      → applying.apply (leftBy before t .words) (leftBy before t .used) s f n limit .answer ≡ applied.Node v u j
       → Applied t (before ++ (apply s f n limit ∷ [])) cs v args r k
       → Applied t before (apply s f n limit ∷ cs) f (record { before = before; node = n } ∷ args) r (j + k)
 
@@ -66,7 +65,7 @@ pub data Completed (t : Table) : List Call → List Call → List ℕ → List A
       → Completed t (before ++ (c ∷ [])) cs b args r k
       → Completed t before (c ∷ cs) b args r k
   translates : {before : List Call} {s b : List ℕ} {v u : ℕ} {cs : List Call} {args : List Argument} {r : Tree} {k : ℕ}
-      → term.translate (leftBy before t .words) (leftBy before t .used) s b .answer ≡ made.Node v u
+      → translation.translate (leftBy before t .words) (leftBy before t .used) s b .answer ≡ made.Node v u
       → Applied t (before ++ (translate s b ∷ [])) cs v args r k
       → Completed t before (translate s b ∷ cs) b args r k
 
@@ -74,6 +73,6 @@ pub data Completed (t : Table) : List Call → List Call → List ℕ → List A
 pub data Gave : List Call → Table → ℕ → Tree → Type 0 where
   other : {c : Call} {cs : List Call} {t : Table} {v : ℕ} {x : Tree} → Gave cs (left c t) v x → Gave (c ∷ cs) t v x
   reads : {s l : List ℕ} {v u : ℕ} {cs : List Call} {t : Table} {x : Tree}
-      → text.read (t .words) (t .used) s l .answer ≡ made.Node v u
+      → ternary.read (t .words) (t .used) s l .answer ≡ made.Node v u
       → treeOf l ≡ some x
       → Gave (read s l ∷ cs) t v x

@@ -23,15 +23,15 @@ unfolding rows size
     bytes.bytes bytes.abstraction bytes.application bytes.argument bytes.parse bytes.whole bytes.rule
     abstraction.bracket abstraction.translate abstraction.grown abstraction.treeOf abstraction.ruleTree
     nodes.broken nodes.sound nodes.branches nodes.treeTo nodes.make nodes.lay
-    outcome.fits outcome.atEntry outcome.stopped outcome.placed outcome.laid
+    outcome.fits outcome.atEntry outcome.stopped outcome.placed outcome.laid outcome.lacking outcome.laidWithin
     refusal.number refusal.refusedNumbers refusal.madeNumbers
     text.text text.takeLeaf text.takeStem text.takeFork text.takeDigit text.pending text.single text.treeOf text.manyPending text.mostPending
     read.readable read.readTree read.read
-    write.next write.spend write.digits write.written write.write
+    write.next write.spend write.digits write.written write.writeTree write.write
     translate.translateRule translate.translate
     machine.forkRule machine.rule machine.resume machine.grow machine.hold machine.useRule machine.turn machine.after machine.uses
-    apply.settle apply.apply
-    packet.before packet.fields packet.highFirst packet.withArgument packet.lastField packet.afterRule packet.fromFields packet.packet
+    apply.settle apply.applyNodes apply.apply
+    packet.before packet.fields packet.highFirst packet.withArgument packet.lastField packet.afterRule packet.fromFields packet.packet packet.fieldBytes packet.argumentBytes
     run.ranNumbers run.stopped run.afterMade run.afterApplied run.afterWritten run.writes run.applies run.reads run.stages run.allReadable run.runPacket run.lengthsFit run.run
-    examples.afterMade examples.afterApplied examples.applyLine examples.readAll examples.place examples.field examples.arguments examples.lengths examples.taken examples.runLine examples.line
+    examples.afterMade examples.afterApplied examples.applyLine examples.readAll examples.place examples.lengths examples.taken examples.runLine examples.line
 starred = refl

@@ -1,5 +1,5 @@
 -- A row of the table of worked examples: an input, and the line that the definitions give for it. Assumes nothing: these are definitions.
-use Prim.Native.Nat.{ℕ, _+_, _-_, _*_, _/_, _%_}
+use Prim.Native.Nat.{ℕ, _+_, _-_, _*_}
 use mathlib.Core.List.{List, [], _∷_, _++_, map}
 use lib.ListN.{length, replicate, take}
 use Rattle.table.specs.Nodes.{treeAt}
@@ -13,7 +13,9 @@ use Rattle.translation.specs.Translate.{translate}
 use Rattle.applying.specs.Apply.{apply}
 use Rattle.applying.specs.declared.Applied.{Applied}
 use Rattle.applying.specs.declared.Applied.the-variants as applied
+use Rattle.fields.specs.Packet.{fieldBytes, argumentBytes}
 use Rattle.running.specs.Run as run
+use Rattle.running.specs.declared.Ran.{Ran}
 
 -- digits as the bytes of a text
 abbrev pub ascii : List ℕ → List ℕ
@@ -73,14 +75,6 @@ unfoldable pub place : List ℕ → Program → Outcome Made
 place w (rule b) = translate w 0 ample b
 place w (tree l) = read w 0 ample (ascii l)
 
--- a packet's bytes
-unfoldable pub field : ℕ → List ℕ → List ℕ
-field tag v = tag ∷ (length v / 256) ∷ (length v % 256) ∷ v
-
-unfoldable pub arguments : List (List ℕ) → List ℕ
-arguments [] = []
-arguments (l ∷ ls) = field 2 (ascii l) ++ arguments ls
-
 unfoldable pub lengths : List (List ℕ) → ℕ
 lengths [] = 0
 lengths (l ∷ ls) = length l + lengths ls
@@ -89,7 +83,7 @@ lengths (l ∷ ls) = length l + lengths ls
 unfoldable pub taken : Program → List (List ℕ) → ℕ
 taken p ls = madeNumbers 0 (place (replicate 80 0) p .answer) .used + lengths ls
 
-unfoldable pub runLine : run.Whole → Numbers → Line
+unfoldable pub runLine : Outcome Ran → Numbers → Line
 runLine o n = record { refusal = n .refusal; steps = n .steps; nodes = n .used; digits = take (n .digits) (o .out) }
 
 unfoldable pub line : Input → Line
@@ -98,5 +92,5 @@ line (applies p ls limit free frames) =
     let o = place (replicate ((taken p ls + free) * 2) 0) p in
     afterMade o (o .answer) (λ w u v. readAll ls w u (λ ns w′ u′. applyLine ns limit frames u′ w′ u′ v 0))
 line (packet b ls) =
-    let o = run.run (replicate 80 0) ample (replicate 40 0) (field 1 b ++ arguments ls) in
+    let o = run.run (replicate 80 0) ample (replicate 40 0) (fieldBytes 1 b ++ argumentBytes (map (λ (l : List ℕ). ascii l) ls)) in
     runLine o (run.ranNumbers (o .answer))

@@ -1,5 +1,6 @@
 -- An exported function calls its operation and lists the answer's numbers: what it leaves is the operation's outcome, with the answer as numbers.
 -- Assumes nothing.
+use Prim.Native.Nat.{ℕ}
 use mathlib.Core.Path.{_≡_, ap, _∙_}
 use mathlib.Core.List.{List}
 use Rattle.table.specs.Refusal.{Numbers}

@@ -86,7 +86,7 @@ pub extern "C" fn lazvorn_read(
     ensures { λ _. ⌜ whole (now (answer .exit)) (now (table .exit)) (now (stack .exit))
         ≡ numbered (madeNumbers used) (reading.read (now (table .entry)) used (now (stack .entry)) (now (text .entry))) ⌝ }
 {
-    let read = text::read(table, used, stack, text);
+    let read = reader::read(table, used, stack, text);
     *answer = made(used, read);
 }
 
@@ -103,7 +103,7 @@ pub extern "C" fn lazvorn_write(
     ensures { λ _. ⌜ wholeOut (now (answer .exit)) (now (table .entry)) (now (stack .exit)) (now (out .exit))
         ≡ numbered (writing.writtenNumbers used) (writing.write (now (table .entry)) used (now (stack .entry)) node (now (out .entry))) ⌝ }
 {
-    let wrote = text::write(table, used, stack, node, out);
+    let wrote = writer::write(table, used, stack, node, out);
     *answer = written(used, wrote);
 }
 

@@ -1,5 +1,5 @@
 -- The reader of packets gives a packet exactly where the bytes are one, and bytes are one packet at most. Assumes nothing.
-use Prim.Native.Nat.{ℕ, zero, suc, _+_, _*_, _/_, _%_, _≤_, _<_}
+use Prim.Native.Nat.{ℕ, zero, suc, _+_, _*_, _/_, _%_, _≤_}
 use mathlib.Core.Path.{_≡_, refl}
 use mathlib.Core.Logic.{_↔_}
 use mathlib.Core.Bool.{Bool, true, false, cond, _&&_}
@@ -11,12 +11,7 @@ use lib.Seq.{length-take-le, take-append-seam, drop-append-seam}
 use lib.Dec.{leb, eqb}
 use borrow.Author.Tests.{leb-true, le-leb, eqb-true, eq-eqb}
 use Rattle.fields.specs.Packet.{Field, before, fields, Packet, highFirst, withArgument, lastField, afterRule, fromFields, packet}
-use Rattle.fields.specs.Packet.{fieldBytes, argumentBytes, IsLimit, named, default, IsPacket}
-
--- every number of a list is a byte
-abbrev pub Bytes : List ℕ → Type 0
-Bytes [] = Unit {0}
-Bytes (b ∷ l) = (b < 256) × Bytes l
+use Rattle.fields.specs.Packet.{fieldBytes, argumentBytes, IsLimit, named, default, IsPacket, NoPacket, Bytes}
 
 bytes-drop : (n : ℕ) (l : List ℕ) → Bytes l → Bytes (drop n l)
 bytes-drop zero l h = h
@@ -162,3 +157,11 @@ packet-exact l p h = (λ e. rw e at (packet-good l h), packet-found)
 -- "Fields: one-byte tag, two-byte length (high byte first), value." (The packet) Two packets with the same bytes are equal.
 pub packet-unique : (l : List ℕ) (p q : Packet) → IsPacket l p → IsPacket l q → p ≡ q
 packet-unique l p q h k = cc (packet-found h, packet-found k)
+
+-- "Anything else, or more than 16,384 bytes, is 6." (The packet) The reader gives none exactly where the bytes are no packet.
+pub no-packet-exact : (l : List ℕ) → Bytes l → (packet l ≡ none) ↔ NoPacket l
+no-packet-exact l h = (λ e p i. let z : _≡_ {A = ℕ} 0 1 = cc (packet-found i) in omega arith, go (packet l) refl)
+  where
+    go : (r : Option Packet) → packet l ≡ r → NoPacket l → packet l ≡ none
+    go none e n = e
+    go (some p) e n = absurd (n p (packet-exact l p h .0 e))

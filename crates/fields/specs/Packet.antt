@@ -93,3 +93,12 @@ pub record IsPacket (l : List ℕ) (p : Packet) : Type 0 where
   pub limit-is : IsLimit end (p .limit)
   pub few : length (p .arguments) ≤ 8
   pub short : length l ≤ 16384
+
+-- "Anything else, or more than 16,384 bytes, is 6.": the list is no packet's bytes
+abbrev pub NoPacket : List ℕ → Type 0
+NoPacket l = (p : Packet) → IsPacket l p → ⊥
+
+-- every number of a list is a byte
+abbrev pub Bytes : List ℕ → Type 0
+Bytes [] = Unit {0}
+Bytes (b ∷ l) = (b < 256) × Bytes l

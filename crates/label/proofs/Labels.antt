@@ -1,25 +1,27 @@
--- Laws of Label for callers: what a success gives, and what a refusal leaves. Assumes nothing.
-use Prim.Native.Nat.{ℕ, _+_, _-_, _*_, _≤_, _<_}
-use mathlib.Core.Path.{_≡_, refl, sym, ap, ap₂, _∙_, subst}
+-- What a Label that gave a node says, for callers. Assumes nothing.
+use Prim.Native.Nat.{ℕ, _+_, _-_, _≤_, _<_}
+use mathlib.Core.Path.{_≡_, refl, sym, _∙_, subst}
 use mathlib.Core.Bool.{Bool, true, false, cond, _&&_}
 use mathlib.Core.List.{List, []}
 use mathlib.Core.Option.{Option, none, some}
 use native.Mathlib.Omega.{arith}
 use lib.Dec.{ltb}
 use borrow.Author.Tests.{ltb-true, ltb-false}
-use Rattle.calculus.specs.Tree.{Tree, leaf, stem, fork}
-use Rattle.table.specs.Nodes.{Table, Placed, capacity, Sound, treeAt, make}
+use Rattle.calculus.specs.Tree.{Tree}
+use Rattle.table.specs.Nodes.{Table, Placed, capacity, Sound, treeAt}
 use Rattle.table.specs.Outcome.{Outcome, whole, placed, atEntry, unless}
 use Rattle.table.specs.declared.Refusal.{Refusal}
 use Rattle.table.specs.declared.Refusal.the-variants.{Nodes}
 use Rattle.table.specs.declared.Refusal.the-variants as refusal
+use Rattle.table.specs.declared.Made.{Made}
 use Rattle.table.specs.declared.Made.the-variants.{Node, Refused}
 use Rattle.table.proofs.Words.{and-left, and-right}
 use Rattle.table.proofs.Trees.{Extends, extends-refl, extends-trans}
 use Rattle.table.proofs.Making.{Places, Has, has, stays, stem-of, fork-of, make-used, make-leaf}
-use Rattle.table.proofs.Entry.{Entered, entered}
+use Rattle.table.proofs.Entry.{entered}
 use Rattle.table.proofs.Laid.{refused-made}
 use Rattle.label.specs.Label.{labelled, nodes, label}
+use Rattle.label.specs.Claims.{Labels}
 
 -- z is t with k nodes more
 record Grown (t : Table) (k : ℕ) (z : Table) : Type 0 where
@@ -58,14 +60,6 @@ nodes-place {t} s f l hf hl r =
   where
     known : (i : ℕ) → i < t .used → Has t i (treeAt (t .words) i)
     known i h = record { inside = h; tree = refl }
-
--- What a Label that gave node v says: both nodes were in use, the node has the labelled tree, and old nodes keep their trees.
-pub record Labels (w : List ℕ) (u f t v u′ : ℕ) : Type 0 where
-  pub entry : Entered true w u []
-  pub rule-in : f < u
-  pub label-in : t < u
-  pub places : Places (record { words = w; used = u }) (record { table = record { words = label w u f t .table; used = u′ }; node = v }) (labelled (treeAt w f) (treeAt w t))
-  pub used-is : u′ ≡ u + 7
 
 module _ (w : List ℕ) (u f t v u′ : ℕ) where
   -- the outcome o, as far as the checks have come
@@ -115,20 +109,4 @@ module _ (w : List ℕ) (u f t v u′ : ℕ) where
       go none c q =
           let n = entered true w u [] c in
           let g = from-checks (n .table) q in
-          record { entry = n; rule-in = g .0; label-in = g .1; places = rw c (g .2); used-is = g .3 }
-
--- no refusal of Label changes a table word
-pub label-refused : (w : List ℕ) (u f t : ℕ) (e : Refusal) → label w u f t .answer ≡ Refused e → label w u f t .table ≡ w
-unfolding label placed
-label-refused w u f t e = go (atEntry true w u []) (ltb f u && ltb t u) (ltb (capacity w - u) 7)
-  where
-    z : Outcome Made
-    z = placed (nodes (record { words = w; used = u }) f t) []
-
-    go : (c : Option Refusal) (x y : Bool)
-        → unless c (λ e. whole (Refused e) w []) (cond x (cond y (whole (Refused Nodes) w []) z) (whole (Refused refusal.Node) w [])) .answer ≡ Refused e
-        → unless c (λ e. whole (Refused e) w []) (cond x (cond y (whole (Refused Nodes) w []) z) (whole (Refused refusal.Node) w [])) .table ≡ w
-    go (some c) x y q = refl
-    go none false y q = refl
-    go none true true q = refl
-    go none true false q = refused-made (sym q)
+          record { entered = c; rule-in = g .0; label-in = g .1; places = rw c (g .2); used-is = g .3 }

@@ -1,3 +1,4 @@
--- Label, and what its code's own values say. Assumes nothing: these are definitions.
+-- Label, what is claimed of it, and what its code's own values say. Assumes nothing: these are definitions.
 pub mod Label
+pub mod Claims
 pub mod Code

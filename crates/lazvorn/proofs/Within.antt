@@ -5,13 +5,15 @@ use mathlib.Core.List.{List}
 use native.Mathlib.Omega.{arith}
 use lib.ListN.{length, drop, length-append}
 use Rattle.ternary.specs.Text.{text}
-use Rattle.running.specs.Run.{Whole, whole, run}
+use Rattle.table.specs.Outcome.{Outcome, wholeOut}
+use Rattle.running.specs.Run.{run}
+use Rattle.running.specs.declared.Ran.{Ran}
 use Rattle.running.specs.declared.Ran.{Ran}
 use Rattle.running.specs.declared.Ran.the-variants.{Text}
 use Rattle.running.proofs.Direct.{run-direct}
 
-pub text-within : (w s o l : List ℕ) {a : Ran} {z y x : List ℕ} {k u n : ℕ} → whole a z y x ≡ run w s o l → a ≡ Text k u n → n ≤ length x
+pub text-within : (w s o l : List ℕ) {a : Ran} {z y x : List ℕ} {k u n : ℕ} → wholeOut a z y x ≡ run w s o l → a ≡ Text k u n → n ≤ length x
 text-within w s o l {a} {z} {y} {x} {k} {u} {n} e q =
-    let r = run-direct w s o l k u n (ap (λ (v : Whole). v .answer) (sym e) ∙ q) in
-    let f = ap length (ap (λ (v : Whole). v .out) e ∙ r .out-is) in
+    let r = run-direct w s o l k u n (ap (λ (v : Outcome Ran). v .answer) (sym e) ∙ q) in
+    let f = ap length (ap (λ (v : Outcome Ran). v .out) e ∙ r .out-is) in
     omega (arith, r .digits-are, length-append (text (r .tree)) (drop n o))

@@ -1,4 +1,3 @@
 -- The laws that the proofs of Apply's functions cite.
-pub mod Frames
-pub mod Steps
+pub mod Going
 pub mod Settled

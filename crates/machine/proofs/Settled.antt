@@ -1,13 +1,12 @@
 -- Laws for each way that the code of Apply ends, over plain values. Assumes nothing.
 use Prim.Native.Nat.{ℕ, _*_, _≤_, _<_}
 use mathlib.Core.Path.{_≡_, sym, _∙_, subst}
-use mathlib.Core.Bool.{Bool}
 use mathlib.Core.List.{List}
 use native.Mathlib.Omega.{arith}
 use lib.ListN.{length}
 use lib.Dec.{leb}
 use borrow.Author.Tests.{lt-ltb, le-ltb, leb-true}
-use Rattle.table.specs.Nodes.{cleared}
+use Rattle.table.specs.Nodes.{Sound, cleared}
 use Rattle.table.specs.Outcome.{Outcome, whole, frames, zeros, atEntry, stopped}
 use Rattle.checks.specs.Code.{refusalOf}
 use Rattle.checks.specs.declared.Checked.{Checked}
@@ -16,17 +15,17 @@ use Rattle.table.specs.declared.Refusal.{Refusal}
 use Rattle.table.specs.declared.Refusal.the-variants.{Steps, Nodes, Frames}
 use Rattle.table.specs.declared.Refusal.the-variants as refusal
 use Rattle.table.proofs.Words.{cleared-all}
-use Rattle.table.proofs.Entry.{Entered, entered, enters}
+use Rattle.table.proofs.Entry.{Entered, entered, enters, check-refuses}
 use Rattle.applying.specs.declared.Applied.{Applied}
 use Rattle.applying.specs.declared.Applied.the-variants.{Node, Refused}
-use Rattle.machine.specs.declared.End.{End}
-use Rattle.machine.specs.declared.End.the-variants as ended
-use Rattle.machine.specs.declared.Turned.{Turned}
+use Rattle.frames.specs.declared.End.{End}
+use Rattle.frames.specs.declared.End.the-variants as ended
+use Rattle.frames.specs.declared.Turned.{Turned}
 use Rattle.applying.specs.Machine.{Turn, more, done, stop, uses}
 use Rattle.applying.specs.Apply.{settle, begin, applyNodes, apply}
-use Rattle.machine.specs.Code.{endOf, turnOf}
+use Rattle.frames.specs.Code.{endOf, turnOf}
 use Rattle.applying.proofs.States.{Later, uses-later}
-use Rattle.applying.proofs.Cases.{good-begin}
+use Rattle.applying.proofs.Cases.{sound-begin, entered-apply}
 
 -- Where an application ends: y and z are the words of table and stack that it leaves.
 module _ (u : ℕ) (w s y z : List ℕ) (x : Turned) (a : Applied) (stack : z ≡ cleared s 0 (length s)) where
@@ -61,42 +60,44 @@ same-zeros u z s l (more y) = rw l
 same-zeros u z s l (done p k) = rw l
 same-zeros u z s l (stop e t) = rw l
 
--- Apply by the code's check
-pub refuse-entry : (w : List ℕ) (u : ℕ) (s : List ℕ) (f n limit : ℕ) {x : Checked} {e : Refusal}
-    → refusalOf x ≡ atEntry (leb limit 1000000) w u s → x ≡ check.Refused e → whole (Refused e) w s ≡ apply w u s f n limit
-unfolding apply applyNodes
-refuse-entry w u s f n limit p q = rw (← p, q)
+-- An application on a sound table with two nodes in use, by its uses: y and z are the words of table and stack after them.
+module _ {w : List ℕ} {u : ℕ} (s : List ℕ) {f n : ℕ} (fine : Sound (record { words = w; used = u })) (function-in : f < u) (argument-in : n < u)
+    (limit : ℕ) (t : Turned) (y z : List ℕ) (used : turnOf t y z ≡ uses (frames s) limit (begin w u f n)) where
+  -- no node is lost, and those in use lie in the table
+  pub used-in : (u ≤ t .state .used) × (t .state .used * 2 ≤ length y)
+  used-in = go (t .end) (subst (Later (frames s) (begin w u f n .table)) (sym used) (uses-later limit (sound-begin fine function-in argument-in)))
+    where
+      go : (e : End) → Later (frames s) (begin w u f n .table) (endOf e (t .state) y z) → (u ≤ t .state .used) × (t .state .used * 2 ≤ length y)
+      go ended.More l = (l .extends .kept .up, omega (arith, l .fine .within))
+      go ended.Done l = (l .extends .kept .up, omega (arith, l .fine .within))
+      go ended.Nodes l = (l .extends .kept .up, omega (arith, l .fine .within))
+      go ended.Frames l = (l .extends .kept .up, omega (arith, l .fine .within))
 
-pub passed-by : {own : Bool} {w : List ℕ} {u : ℕ} {s : List ℕ} {x : Checked} → refusalOf x ≡ atEntry own w u s → x ≡ check.Passed → Entered own w u s
-passed-by {own} {w} {u} {s} p q = entered own w u s (rw (← p, q))
+  pub settled : (o : Outcome Applied) → length z ≡ length s → o ≡ settle u z (turnOf t y z) → o ≡ applyNodes w u s f n limit
+  unfolding applyNodes
+  settled o l r = r ∙ rw used (same-zeros u z s l (uses (frames s) limit (begin w u f n)))
 
-module _ {w : List ℕ} {u : ℕ} {s : List ℕ} (f n limit : ℕ) (i : Entered (leb limit 1000000) w u s) where
-  pub within-limit : limit ≤ 1000000
-  within-limit = leb-true limit 1000000 (i .owned)
+-- Apply by the code's check: it refuses, one of the numbers is none of a node in use, or the application goes on
+module _ (w : List ℕ) (u : ℕ) (s : List ℕ) (f n limit : ℕ) {x : Checked} (p : refusalOf x ≡ atEntry (leb limit 1000000) w u s) where
+  pub refuse-entry : {e : Refusal} → x ≡ check.Refused e → whole (Refused e) w s ≡ apply w u s f n limit
+  unfolding apply
+  refuse-entry q = check-refuses (λ (e : Refusal). whole (Refused e) w s) _ (rw q at p)
 
-  pub refuse-function : u ≤ f → whole (Refused refusal.Node) w s ≡ apply w u s f n limit
-  unfolding apply applyNodes
-  refuse-function h = rw (enters i, le-ltb f u h)
+  module _ (passed : x ≡ check.Passed) where
+    pub passed-by : Entered (leb limit 1000000) w u s
+    passed-by = entered (leb limit 1000000) w u s (sym (rw passed at p))
 
-  module _ (function-in : f < u) where
-    pub refuse-argument : u ≤ n → whole (Refused refusal.Node) w s ≡ apply w u s f n limit
-    unfolding apply applyNodes
-    refuse-argument h = rw (enters i, lt-ltb f u function-in, le-ltb n u h)
+    pub within-limit : limit ≤ 1000000
+    within-limit = leb-true limit 1000000 (passed-by .limits-kept)
 
-    -- Apply by its uses: y and z are the words of table and stack after them
-    module _ (argument-in : n < u) (t : Turned) (y z : List ℕ) (used : turnOf t y z ≡ uses (frames s) limit (begin w u f n)) where
-      -- no node is lost, and those in use lie in the table
-      pub used-in : (u ≤ t .state .used) × (t .state .used * 2 ≤ length y)
-      used-in = go (t .end) (subst (Later (frames s) (begin w u f n .table)) (sym used) (uses-later limit (good-begin i function-in argument-in)))
-        where
-          go : (e : End) → Later (frames s) (begin w u f n .table) (endOf e (t .state) y z) → (u ≤ t .state .used) × (t .state .used * 2 ≤ length y)
-          go ended.More l = (l .extends .kept .up, omega (arith, l .fine .within))
-          go ended.Done l = (l .extends .kept .up, omega (arith, l .fine .within))
-          go ended.Nodes l = (l .extends .kept .up, omega (arith, l .fine .within))
-          go ended.Frames l = (l .extends .kept .up, omega (arith, l .fine .within))
+    pub refuse-function : u ≤ f → whole (Refused refusal.Node) w s ≡ apply w u s f n limit
+    unfolding apply
+    refuse-function h = rw (enters passed-by, le-ltb f u h)
 
-      pub settled : (o : Outcome Applied) → length z ≡ length s → o ≡ settle u z (turnOf t y z) → o ≡ apply w u s f n limit
-      unfolding apply applyNodes
-      settled o l r =
-          rw (enters i, lt-ltb f u function-in, lt-ltb n u argument-in)
-          (r ∙ rw used (same-zeros u z s l (uses (frames s) limit (begin w u f n))))
+    module _ (function-in : f < u) where
+      pub refuse-argument : u ≤ n → whole (Refused refusal.Node) w s ≡ apply w u s f n limit
+      unfolding apply
+      refuse-argument h = rw (enters passed-by, lt-ltb f u function-in, le-ltb n u h)
+
+      pub by-nodes : n < u → (o : Outcome Applied) → o ≡ applyNodes w u s f n limit → o ≡ apply w u s f n limit
+      by-nodes argument-in o r = r ∙ entered-apply limit passed-by function-in argument-in

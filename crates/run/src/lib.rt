@@ -1,204 +1,14 @@
-// Run: a packet's rule on its arguments, and the text of the outcome. Each stage is a function that ends in the next one, as in the definition
-// (the crate `running`), and takes its inner answer apart: a refusal clears what was made since Run's entry.
-use applying::Applied;
+// Run: the checks 1, 6, 5 and 4 of a packet, and then the stages (the crate `stages`). The definition and its theorems are in the crate `running`.
 use packet::Form;
 use running::Ran;
-use table::Made;
 use table::Refusal;
-use ternary::Written;
 ghost use mathlib.Core.Path.{_≡_};
-ghost use mathlib.Core.List.{List};
-ghost use Prim.Native.Nat.{ℕ, _*_, _≤_};
-ghost use lib.ListN.{length, take};
+ghost use Prim.Native.Nat.{_≤_};
+ghost use lib.ListN.{length};
+ghost use Rattle.table.specs.Outcome.{wholeOut};
 ghost use Rattle.fields.specs.Packet as reading;
-ghost use Rattle.packet.specs.Code.{endAt, valueAt, Stand, valuesAt};
-ghost use Rattle.running.specs.Run.{whole, stopped, writes, applies, reads, stages, allReadable, runPacket, run};
-
-// What Run does once the rule is translated: apply its node to so many arguments under this step limit.
-pub struct Job {
-    pub rule: usize,
-    pub count: usize,
-    pub limit: usize,
-}
-
-// The refusal of Translate or Read, where there is one.
-fn made_refusal(made: Made) -> Refusal
-    requires { ⌜ ((n u : ℕ) → made ≡ Made.Node n u → ⊥) ⌝ }
-    ensures { λ r. ⌜ made ≡ Made.Refused r ⌝ }
-{
-    match made {
-        Made::Refused(refusal) => refusal,
-        Made::Node { node: _, used: _ } => Refusal::Limits,
-    }
-}
-
-// The refusal of Apply, where there is one.
-fn applied_refusal(applied: Applied) -> Refusal
-    requires { ⌜ ((n u k : ℕ) → applied ≡ Applied.Node n u k → ⊥) ⌝ }
-    ensures { λ r. ⌜ applied ≡ Applied.Refused r ⌝ }
-{
-    match applied {
-        Applied::Refused(refusal) => refusal,
-        Applied::Node {
-            node: _,
-            used: _,
-            steps: _,
-        } => Refusal::Limits,
-    }
-}
-
-// The refusal of Write, where there is one.
-fn written_refusal(written: Written) -> Refusal
-    requires { ⌜ ((n : ℕ) → written ≡ Written.Digits n → ⊥) ⌝ }
-    ensures { λ r. ⌜ written ≡ Written.Refused r ⌝ }
-{
-    match written {
-        Written::Refused(refusal) => refusal,
-        Written::Digits(_) => Refusal::Limits,
-    }
-}
-
-// A stage was refused with `used` nodes in use before it: every node made since Run's entry is cleared, and the stack.
-fn stop(table: &mut [u32], used: usize, stack: &mut [u32], refusal: Refusal) -> Ran
-    requires { ⌜ used * 2 ≤ length (now table) ⌝ }
-    ensures { λ r. ⌜ ((o : List ℕ) → whole r (now (table .exit)) (now (stack .exit)) o ≡ stopped refusal (now (table .entry)) used (now (stack .entry)) o) ⌝ }
-{
-    let len = stack.len();
-    nodes::clear(table, 0, used * 2);
-    nodes::clear(stack, 0, len);
-    Ran::Refused(refusal)
-}
-
-// Writes the outcome, a node that came of so many steps.
-fn write_outcome(
-    table: &mut [u32],
-    used: usize,
-    stack: &mut [u32],
-    out: &mut [u8],
-    node: usize,
-    steps: usize,
-) -> Ran
-    requires { ⌜ used * 2 ≤ length (now table) ⌝ }
-    ensures { λ r. ⌜ whole r (now (table .exit)) (now (stack .exit)) (now (out .exit))
-        ≡ writes (now (table .entry)) used (now (stack .entry)) (now (out .entry)) node steps ⌝ }
-{
-    let written = text::write(table, used, stack, node, out);
-    let Written::Digits(digits) = written else {
-        return stop(table, used, stack, written_refusal(written));
-    };
-    Ran::Text {
-        steps: steps,
-        used: used,
-        digits: digits,
-    }
-}
-
-// Applies the rule's node to the argument nodes in order, under one step limit.
-fn apply_all(
-    table: &mut [u32],
-    used: usize,
-    stack: &mut [u32],
-    out: &mut [u8],
-    nodes: [usize; 8],
-    job: Job,
-) -> Ran
-    requires { ⌜ (used * 2 ≤ length (now table)) × (job .count ≤ 8) ⌝ }
-    ensures { λ r. ⌜ whole r (now (table .exit)) (now (stack .exit)) (now (out .exit))
-        ≡ applies (take (job .count) nodes) (job .limit) (now (table .entry)) used (now (stack .entry)) (now (out .entry)) (job .rule) 0 ⌝ }
-{
-    let count = job.count;
-    let limit = job.limit;
-    let mut node = job.rule;
-    let mut in_use = used;
-    let mut steps = 0;
-    let mut done = 0;
-    while done < count {
-        let argument = nodes[done];
-        let applied = machine::apply(table, in_use, stack, node, argument, limit - steps);
-        let Applied::Node {
-            node: given,
-            used: used_then,
-            steps: taken,
-        } = applied
-        else {
-            return stop(table, in_use, stack, applied_refusal(applied));
-        };
-        node = given;
-        in_use = used_then;
-        steps += taken;
-        done += 1;
-    }
-    write_outcome(table, in_use, stack, out, node, steps)
-}
-
-// Reads each argument's text in order, from a position of the packet on.
-fn read_all(
-    table: &mut [u32],
-    used: usize,
-    stack: &mut [u32],
-    out: &mut [u8],
-    packet: &[u8],
-    from: usize,
-    job: Job,
-) -> Ran
-    requires { ⌜ (used * 2 ≤ length (now table)) × (job .count ≤ 8) × Stand (now packet) from (job .count) ⌝ }
-    ensures { λ r. ⌜ whole r (now (table .exit)) (now (stack .exit)) (now (out .exit))
-        ≡ reads (valuesAt (now (packet .entry)) from (job .count)) (now (table .entry)) used (now (stack .entry)) (now (out .entry))
-        (λ ns w u s. applies ns (job .limit) w u s (now (out .entry)) (job .rule) 0) ⌝ }
-{
-    let count = job.count;
-    let mut nodes = [0usize; 8];
-    let mut at = from;
-    let mut in_use = used;
-    let mut kept = 0;
-    while kept < count {
-        let part = packet::part_at(packet, at);
-        let start = part.start;
-        let end = part.end;
-        let made = text::read(table, in_use, stack, &packet[start..end]);
-        let Made::Node {
-            node,
-            used: used_then,
-        } = made
-        else {
-            return stop(table, in_use, stack, made_refusal(made));
-        };
-        nodes[kept] = node;
-        at = end;
-        in_use = used_then;
-        kept += 1;
-    }
-    apply_all(table, in_use, stack, out, nodes, job)
-}
-
-// The stages of Run on a packet that passed the checks: Translate, Read of each argument, Apply in order, Write.
-fn run_stages(
-    table: &mut [u32],
-    stack: &mut [u32],
-    out: &mut [u8],
-    packet: &[u8],
-    count: usize,
-    limit: usize,
-) -> Ran
-    requires { ⌜ (endAt (now packet) 0 ≤ length (now packet)) × Stand (now packet) (endAt (now packet) 0) count × (count ≤ 8) ⌝ }
-    ensures { λ r. ⌜ whole r (now (table .exit)) (now (stack .exit)) (now (out .exit))
-        ≡ stages (now (table .entry)) (now (stack .entry)) (now (out .entry))
-        (record { rule = valueAt (now (packet .entry)) 0; arguments = valuesAt (now (packet .entry)) (endAt (now (packet .entry)) 0) count; limit = limit }) ⌝ }
-{
-    let part = packet::part_at(packet, 0);
-    let start = part.start;
-    let end = part.end;
-    let made = term::translate(table, 0, stack, &packet[start..end]);
-    let Made::Node { node, used } = made else {
-        return stop(table, 0, stack, made_refusal(made));
-    };
-    let job = Job {
-        rule: node,
-        count: count,
-        limit: limit,
-    };
-    read_all(table, used, stack, out, packet, end, job)
-}
+ghost use Rattle.packet.specs.Code.{Stand, valuesAt};
+ghost use Rattle.running.specs.Run.{allReadable, runPacket, run};
 
 // Whether each of so many texts, from a position of the packet on, is one that Read takes.
 fn all_texts(packet: &[u8], from: usize, count: usize) -> bool
@@ -211,7 +21,7 @@ fn all_texts(packet: &[u8], from: usize, count: usize) -> bool
         let part = packet::part_at(packet, at);
         let start = part.start;
         let end = part.end;
-        if !text::is_text(&packet[start..end]) {
+        if !reader::is_text(&packet[start..end]) {
             return false;
         }
         at = end;
@@ -222,7 +32,8 @@ fn all_texts(packet: &[u8], from: usize, count: usize) -> bool
 
 // Checks 6, 5 and 4, and then the stages.
 fn run_packet(table: &mut [u32], stack: &mut [u32], out: &mut [u8], packet: &[u8]) -> Ran
-    ensures { λ r. ⌜ whole r (now (table .exit)) (now (stack .exit)) (now (out .exit))
+    requires { ⌜ (length (now table) ≤ 131072) × (length (now stack) ≤ 65536) × (length (now out) ≤ 65535) ⌝ }
+    ensures { λ r. ⌜ wholeOut r (now (table .exit)) (now (stack .exit)) (now (out .exit))
         ≡ runPacket (now (table .entry)) (now (stack .entry)) (now (out .entry)) (reading.packet (now (packet .entry))) ⌝ }
 {
     let Form::Whole { arguments, limit } = packet::read_packet(packet) else {
@@ -231,18 +42,18 @@ fn run_packet(table: &mut [u32], stack: &mut [u32], out: &mut [u8], packet: &[u8
     let part = packet::part_at(packet, 0);
     let start = part.start;
     let end = part.end;
-    if term::rule_size(&packet[start..end]) == 0 {
+    if rule_size::rule_size(&packet[start..end]) == 0 {
         return Ran::Refused(Refusal::Rule);
     }
     if !all_texts(packet, end, arguments) {
         return Ran::Refused(Refusal::Text);
     }
-    run_stages(table, stack, out, packet, arguments, limit)
+    stages::run_stages(table, stack, out, packet, arguments, limit)
 }
 
 // Runs a packet with the table taken as empty.
 pub fn run(table: &mut [u32], stack: &mut [u32], out: &mut [u8], packet: &[u8]) -> Ran
-    ensures { λ r. ⌜ whole r (now (table .exit)) (now (stack .exit)) (now (out .exit))
+    ensures { λ r. ⌜ wholeOut r (now (table .exit)) (now (stack .exit)) (now (out .exit))
         ≡ run (now (table .entry)) (now (stack .entry)) (now (out .entry)) (now (packet .entry)) ⌝ }
 {
     if 131072 < table.len() {

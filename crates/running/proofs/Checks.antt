@@ -1,5 +1,5 @@
 -- Run's four checks in their order, 1, 6, 5 and 4, and the outcome that follows each. Assumes nothing.
-use Prim.Native.Nat.{ℕ, _*_, _≤_}
+use Prim.Native.Nat.{ℕ}
 use mathlib.Core.Path.{_≡_, refl}
 use mathlib.Core.Bool.{Bool, true, false, cond}
 use mathlib.Core.List.{List, [], _∷_, map}
@@ -11,44 +11,19 @@ use borrow.Author.Tests.{leb-true, le-leb}
 use Rattle.calculus.specs.Tree.{Tree}
 use Rattle.calculus.specs.Term.{Term}
 use Rattle.calculus.specs.Bytes.{rule}
-use Rattle.table.specs.Nodes.{capacity, cleared}
-use Rattle.table.specs.Outcome.{zeros}
+use Rattle.table.specs.Outcome.{wholeOut}
 use Rattle.table.specs.declared.Refusal.{Refusal}
 use Rattle.table.specs.declared.Refusal.the-variants as refusal
 use Rattle.table.proofs.Words.{and-left, and-right}
 use Rattle.ternary.specs.Read.{readable}
 use Rattle.ternary.proofs.OneText.{zero-one}
 use Rattle.fields.specs.Packet.{Packet, packet}
-use Rattle.running.specs.Run.{Whole, whole, allReadable, runPacket, lengthsFit, run}
+use Rattle.running.specs.Run.{allReadable, runPacket, lengthsFit, run}
+use Rattle.running.specs.Claims.{Fit, Unreadable, here, there, Checked, Refuses, too-long, no-packet, no-rule, no-text}
 use Rattle.running.specs.declared.Ran.the-variants.{Refused}
 use Rattle.running.proofs.Limit.{packet-limit}
-use Rattle.running.proofs.Outcomes.{Fit, Stops, Staged}
+use Rattle.running.proofs.Outcomes.{Staged}
 use Rattle.running.proofs.Stages.{stages-staged}
-
--- What holds where none of the four checks refuses: the lengths fit, the bytes l are the packet p, its rule is the term t, and each of its arguments'
--- texts is one that Read takes, of the trees args in order.
-pub record Checked (w s o l : List ℕ) (p : Packet) (t : Term) (args : List Tree) : Type 0 where
-  pub fit : Fit w s o
-  pub is-packet : packet l ≡ some p
-  pub is-rule : rule (p .rule) ≡ some t
-  pub are-texts : map readable (p .arguments) ≡ map some args
-
--- "4: its arguments' texts, first to last.": the first of the texts that Read does not take
-pub data Unreadable : List (List ℕ) → Type 0 where
-  here : {l : List ℕ} {ls : List (List ℕ)} → readable l ≡ none → Unreadable (l ∷ ls)
-  there : {l : List ℕ} {ls : List (List ℕ)} {x : Tree} → readable l ≡ some x → Unreadable ls → Unreadable (l ∷ ls)
-
--- What was not so where Run refuses with e, and the whole outcome x: "1: lengths only. 6: packet broken. 5: its rule. 4: its arguments' texts, first to
--- last." These "leave lent memory as found". Then a stage stops with 7 to 10: the words of the m nodes made since Run's entry are 0 and all others as
--- found, the stack is 0, and "the out bytes stay as at entry".
-pub data Refuses (w s o l : List ℕ) (x : Whole) : Refusal → Type 0 where
-  too-long : (Fit w s o → ⊥) → x ≡ whole (Refused refusal.Limits) w s o → Refuses w s o l x refusal.Limits
-  no-packet : Fit w s o → packet l ≡ none → x ≡ whole (Refused refusal.Packet) w s o → Refuses w s o l x refusal.Packet
-  no-rule : Fit w s o → {p : Packet} → packet l ≡ some p → rule (p .rule) ≡ none → x ≡ whole (Refused refusal.Rule) w s o → Refuses w s o l x refusal.Rule
-  no-text : Fit w s o → {p : Packet} → packet l ≡ some p → {t : Term} → rule (p .rule) ≡ some t → Unreadable (p .arguments)
-      → x ≡ whole (Refused refusal.Text) w s o → Refuses w s o l x refusal.Text
-  stops : {p : Packet} {t : Term} {args : List Tree} → Checked w s o l p t args → {e : Refusal} {m : ℕ} → Stops w s o p t args e m → m ≤ capacity w
-      → x ≡ whole (Refused e) (cleared w 0 (m * 2)) (zeros s) o → Refuses w s o l x e
 
 fit-true : {w s o : List ℕ} → Fit w s o → lengthsFit w s o ≡ true
 unfolding lengthsFit
@@ -87,28 +62,28 @@ texts (l ∷ ls) = go (readable l) refl (texts ls)
 
 module _ {w s o : List ℕ} (l : List ℕ) where
   -- "1: lengths only."
-  pub run-long : (Fit w s o → ⊥) → run w s o l ≡ whole (Refused refusal.Limits) w s o
+  pub run-long : (Fit w s o → ⊥) → run w s o l ≡ wholeOut (Refused refusal.Limits) w s o
   unfolding run
   run-long h = go (lengthsFit w s o) refl
     where
-      go : (b : Bool) → lengthsFit w s o ≡ b → cond b (runPacket w s o (packet l)) (whole (Refused refusal.Limits) w s o) ≡ whole (Refused refusal.Limits) w s o
+      go : (b : Bool) → lengthsFit w s o ≡ b → cond b (runPacket w s o (packet l)) (wholeOut (Refused refusal.Limits) w s o) ≡ wholeOut (Refused refusal.Limits) w s o
       go true e = absurd (h (true-fit w s o e))
       go false e = refl
 
   module _ (fit : Fit w s o) where
     -- "6: packet broken."
-    pub run-broken-packet : packet l ≡ none → run w s o l ≡ whole (Refused refusal.Packet) w s o
+    pub run-broken-packet : packet l ≡ none → run w s o l ≡ wholeOut (Refused refusal.Packet) w s o
     unfolding run runPacket
     run-broken-packet e = rw (fit-true fit, e)
 
     -- "5: its rule."
-    pub run-bad-rule : {p : Packet} → packet l ≡ some p → rule (p .rule) ≡ none → run w s o l ≡ whole (Refused refusal.Rule) w s o
+    pub run-bad-rule : {p : Packet} → packet l ≡ some p → rule (p .rule) ≡ none → run w s o l ≡ wholeOut (Refused refusal.Rule) w s o
     unfolding run runPacket
     run-bad-rule e q = rw (fit-true fit, e, q)
 
     -- "4: its arguments' texts, first to last."
     pub run-bad-text : {p : Packet} → packet l ≡ some p → {t : Term} → rule (p .rule) ≡ some t → Unreadable (p .arguments)
-        → run w s o l ≡ whole (Refused refusal.Text) w s o
+        → run w s o l ≡ wholeOut (Refused refusal.Text) w s o
     unfolding run runPacket
     run-bad-text e q u = rw (fit-true fit, e, q, not-all-texts u)
 

@@ -1,10 +1,10 @@
 -- Where the rules give a tree within the limit, Run writes its text or lacks nodes, frames or out bytes. Assumes nothing.
 use Prim.Native.Nat.{ℕ, _+_, _≤_}
-use mathlib.Core.Path.{_≡_, refl, ap}
+use mathlib.Core.Path.{refl, ap}
 use mathlib.Core.List.{List, [], _∷_}
-use mathlib.Core.Logic.{_⊎_, inl, inr}
+use mathlib.Core.Logic.{inl, inr}
 use native.Mathlib.Omega.{arith}
-use lib.ListN.{length}
+use Rattle.table.specs.Outcome.{Outcome}
 use Rattle.calculus.specs.Tree.{Tree}
 use Rattle.calculus.specs.Rules.{ApplyAll}
 use Rattle.calculus.specs.Term.{Term}
@@ -13,35 +13,13 @@ use Rattle.calculus.specs.Runs.{Direct, Translated, difference}
 use Rattle.calculus.proofs.Unique.{applyAll-unique}
 use Rattle.calculus.proofs.Rule.{rule-exact}
 use Rattle.calculus.proofs.Demand3.{one-argument}
-use Rattle.table.specs.declared.Refusal.{Refusal}
-use Rattle.table.specs.declared.Refusal.the-variants.{Limits, Broken, Node, Text, Rule, Steps, Nodes, Frames, Out}
-use Rattle.table.specs.declared.Refusal.the-variants as refusal
-use Rattle.ternary.specs.Text.{text}
 use Rattle.fields.specs.Packet.{Packet}
-use Rattle.running.specs.Run.{Whole, run}
-use Rattle.running.specs.declared.Ran.the-variants.{Refused}
-use Rattle.running.specs.declared.Ran.the-variants as ran
+use Rattle.running.specs.declared.Ran.{Ran}
+use Rattle.running.specs.Run.{run}
+use Rattle.running.specs.Claims.{Checked, TooFew, few-nodes, few-frames, few-bytes, Writes}
 use Rattle.running.proofs.Outcomes.{Staged, stops, ends}
-use Rattle.running.proofs.Checks.{Checked, run-checked}
+use Rattle.running.proofs.Checks.{run-checked}
 use Rattle.running.proofs.Refused.{stops-by}
-
--- "8 [..] 9 [..] 10": nodes, frames or out bytes are too few
-abbrev pub TooFew : Refusal → Type 0
-TooFew Limits = ⊥
-TooFew Broken = ⊥
-TooFew Node = ⊥
-TooFew Text = ⊥
-TooFew Rule = ⊥
-TooFew refusal.Packet = ⊥
-TooFew Steps = ⊥
-TooFew Nodes = Unit {0}
-TooFew Frames = Unit {0}
-TooFew Out = Unit {0}
-
--- Run's answer is the text of r after k steps, or 8, 9 or 10
-abbrev pub Writes : List ℕ → List ℕ → List ℕ → List ℕ → Tree → ℕ → Type 0
-Writes w s o l r k =
-    ((u : ℕ) × (run w s o l .answer ≡ ran.Text k u (length (text r)))) ⊎ ((e : Refusal) × TooFew e × (run w s o l .answer ≡ Refused e))
 
 module _ {w s o l : List ℕ} {p : Packet} {t : Term} {args : List Tree} (c : Checked w s o l p t args) where
   -- "Apply in order under one step limit, Write, each with its 7 to 10.": where the translated run ends in r within the packet's limit, Run writes the text
@@ -50,10 +28,10 @@ module _ {w s o l : List ℕ} {p : Packet} {t : Term} {args : List Tree} (c : Ch
   run-complete {r} {k} d h = go (run-checked c)
     where
       go : Staged w s o p t args (run w s o l) → Writes w s o l r k
-      go (stops {e = e} x b q) = inr (e, stops-by TooFew (λ a. absurd (omega (arith, a .no-tree refl d))) tt tt tt x, ap (λ (z : Whole). z .answer) q)
+      go (stops {e = e} x b q) = inr (e, stops-by TooFew (λ a. absurd (omega (arith, a .no-tree refl d))) few-nodes few-frames few-bytes x, ap (λ (z : Outcome Ran). z .answer) q)
       go (ends {z = z} x q) =
           let i = applyAll-unique d (x .translated) in
-          inl (z .used, rw (i .0, i .1) (ap (λ (z : Whole). z .answer) q))
+          inl (z .used, rw (i .0, i .1) (ap (λ (z : Outcome Ran). z .answer) q))
 
 -- "the steps that Apply returned are the planner's plus 2L + 5X − 1": where the direct run of a rule on one argument ends in r and the packet's limit has
 -- room for its steps and the difference, Run writes the text of r, or its nodes, frames or out bytes are too few.

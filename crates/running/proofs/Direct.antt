@@ -1,61 +1,33 @@
 -- What a Run that writes a text is: the direct run of the packet's rule on its arguments. Assumes nothing.
-use Prim.Native.Nat.{ℕ, _+_, _*_, _≤_}
+use Prim.Native.Nat.{ℕ}
 use mathlib.Core.Path.{_≡_, refl, sym, ap, _∙_}
 use mathlib.Core.List.{List, [], _∷_, _++_, map}
 use mathlib.Core.Option.{some}
 use native.Mathlib.Omega.{arith}
-use lib.ListN.{length, take, drop, getD}
+use lib.ListN.{length, drop}
 use lib.Seq.{take-at}
+use Rattle.table.specs.Outcome.{Outcome}
 use Rattle.calculus.specs.Tree.{Tree}
 use Rattle.calculus.specs.Rules.{ApplyAll}
-use Rattle.calculus.specs.Term.{Term, parameters}
+use Rattle.calculus.specs.Term.{Term}
 use Rattle.calculus.specs.Bytes.{rule}
 use Rattle.calculus.specs.Abstraction.{ruleTree}
-use Rattle.calculus.specs.Runs.{Direct, Translated, difference}
+use Rattle.calculus.specs.Runs.{Translated}
+use Rattle.calculus.proofs.Unique.{newNodesAll-unique}
 use Rattle.calculus.proofs.Rule.{rule-leads}
 use Rattle.calculus.proofs.Demand3.{demand-3}
-use Rattle.table.specs.Nodes.{Sound}
-use Rattle.table.specs.Outcome.{zeros}
 use Rattle.ternary.specs.Text.{text, treeOf}
 use Rattle.ternary.specs.Read.{readable}
 use Rattle.ternary.proofs.OneText.{zero-one}
 use Rattle.ternary.proofs.Reading.{readable-some}
-use Rattle.fields.specs.Packet.{Packet, packet}
-use Rattle.running.specs.Run.{Whole, run, ranNumbers}
+use Rattle.fields.specs.Packet.{Packet}
+use Rattle.running.specs.Run.{run, ranNumbers}
+use Rattle.running.specs.Claims.{Checked, Completes}
+use Rattle.running.specs.declared.Ran.{Ran}
 use Rattle.running.specs.declared.Ran.the-variants.{Text}
-use Rattle.running.proofs.Outcomes.{Count, Staged, stops, ends}
-use Rattle.running.proofs.Checks.{Checked, run-checked, Checks, fails, passes, checks}
+use Rattle.running.proofs.Outcomes.{Staged, stops, ends}
+use Rattle.running.proofs.Checks.{run-checked, Checks, fails, passes, checks}
 use Rattle.running.proofs.Refused.{refuses-with}
-
--- What is claimed of a Run that writes n digits after k steps and leaves u nodes in use.
-pub record Ran (w s o l : List ℕ) (k u n : ℕ) : Type 0 where
-  pub numbers : ranNumbers (run w s o l .answer) ≡ record { refusal = 0; node = 0; used = u; steps = k; digits = n }
-  -- the packet, its rule's term, its arguments' trees in order
-  pub sent : Packet
-  pub is-packet : packet l ≡ some sent
-  pub term : Term
-  pub is-rule : rule (sent .rule) ≡ some term
-  pub args : List Tree
-  pub arguments-are : map treeOf (sent .arguments) ≡ map some args
-  -- the tree whose text is written: "Bytes past the text stay."
-  pub tree : Tree
-  pub digits-are : n ≡ length (text tree)
-  pub written : take n (run w s o l .out) ≡ text tree
-  pub out-is : run w s o l .out ≡ text tree ++ drop n o
-  -- "applies the translated rule's tree to the first argument by the five rules, that outcome to the second, and so on. Its steps are the uses"; "under
-  -- one step limit"
-  pub translated : ApplyAll (ruleTree term) args tree k
-  pub within-limit : k ≤ sent .limit
-  -- "The planner's run then has a tree, and it is this one; for n = 1 the steps [..] are the planner's plus 2L + 5X − 1."
-  pub direct : 1 ≤ length args → length args ≤ parameters term → (j : ℕ) × Direct term args tree j
-  pub steps : length args ≡ 1 → (j : ℕ) → Direct term args tree j → k ≡ j + difference term
-  -- the nodes in use: the rule's, one a digit of the arguments' texts, and those made by applying, at most one a step
-  pub used-is : Count sent term k u
-  -- "Success also sets the stack to 0, and no other table word than those of new nodes changes."
-  pub stack : run w s o l .stack ≡ zeros s
-  pub same-length : length (run w s o l .table) ≡ length w
-  pub beyond : (i : ℕ) → 2 * u ≤ i → getD (run w s o l .table) i 0 ≡ getD w i 0
-  pub fine : Sound (record { words = run w s o l .table; used = u })
 
 -- texts that Read takes are whole
 trees-of : (ls : List (List ℕ)) (xs : List Tree) → map readable ls ≡ map some xs → map treeOf ls ≡ map some xs
@@ -67,18 +39,18 @@ trees-of (l ∷ ls) (x ∷ xs) e = let h = readable-some l x (cc) .tree-of in le
 module _ (w s o l : List ℕ) (k u n : ℕ) where
   -- "Run a packet": where Run writes a text, with one argument or more it is that of the tree that the direct run of the packet's rule on its arguments
   -- ends in; with one argument the steps are the direct run's plus 2L + 5X − 1.
-  pub run-direct : run w s o l .answer ≡ Text k u n → Ran w s o l k u n
+  pub run-direct : run w s o l .answer ≡ Text k u n → Completes w s o l k u n
   unfolding Translated ranNumbers
   run-direct q = go (checks w s o l)
     where
-      of-stages : {p : Packet} {t : Term} {args : List Tree} → Checked w s o l p t args → Staged w s o p t args (run w s o l) → Ran w s o l k u n
+      of-stages : {p : Packet} {t : Term} {args : List Tree} → Checked w s o l p t args → Staged w s o p t args (run w s o l) → Completes w s o l k u n
       of-stages c (stops h b e) = zero-one (cc)
       of-stages {p} {t} {args} c (ends {r = r} {k = j} {z = z} h e) =
           let a : j ≡ k = cc in
           let b : z .used ≡ u = cc in
           let d : n ≡ length (text r) = cc in
           let words : run w s o l .table ≡ z .words = cc in
-          let out : run w s o l .out ≡ text r ++ drop n o = rw d (ap (λ (x : Whole). x .out) e) in
+          let out : run w s o l .out ≡ text r ++ drop n o = rw d (ap (λ (x : Outcome Ran). x .out) e) in
           let x : ApplyAll (ruleTree t) args r k = rw (← a) (h .translated) in
           let i = c .is-rule in
           record {
@@ -97,13 +69,13 @@ module _ (w s o l : List ℕ) (k u n : ℕ) where
             within-limit = omega (arith, h .within-limit);
             direct = λ low high. demand-3 (p .rule) t i args low high r .0 .0 (k, x);
             steps = λ one j y. demand-3 (p .rule) t i args (omega arith) (omega (arith, rule-leads (p .rule) i)) r .1 k j one x y;
-            used-is = rw (← a, ← b) (h .count);
+            used-is = omega (arith, h .used-is, newNodesAll-unique refl (h .translated) x);
             stack = cc;
             same-length = ap length words ∙ h .extends .kept .same-length;
             beyond = λ i l. rw words (h .extends .beyond i (omega arith));
             fine = rw (words, ← b) (h .fine);
           }
 
-      go : Checks w s o l → Ran w s o l k u n
+      go : Checks w s o l → Completes w s o l k u n
       go (fails r) = zero-one (cc (refuses-with r))
       go (passes c) = of-stages c (run-checked c)

@@ -1,11 +1,12 @@
 -- The theorems of Run; other crates cite them.
 pub mod Limit
-pub mod Grown
 pub mod Undone
 pub mod Outcomes
 pub mod Stages
 pub mod Checks
 pub mod Refused
+pub mod Packets
+pub mod Cleared
 pub mod Direct
 pub mod Empty
 pub mod Complete

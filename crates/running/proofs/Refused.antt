@@ -1,90 +1,71 @@
 -- What a refused Run leaves, and the exact condition of each check's refusal. Assumes nothing.
-use Prim.Native.Nat.{ℕ, _*_, _≤_, _<_}
-use mathlib.Core.Path.{_≡_, ap, _∙_}
+use Prim.Native.Nat.{ℕ}
+use mathlib.Core.Path.{_≡_, refl, ap}
+use mathlib.Core.Bool.{true, false}
 use mathlib.Core.List.{List}
 use mathlib.Core.Logic.{_↔_}
-use mathlib.Core.Option.{none, some}
-use native.Mathlib.Omega.{arith}
-use lib.ListN.{length, getD}
+use mathlib.Core.Option.{none}
 use Rattle.calculus.specs.Tree.{Tree}
 use Rattle.calculus.specs.Term.{Term}
-use Rattle.calculus.specs.Bytes.{rule}
-use Rattle.table.specs.Nodes.{capacity, cleared}
-use Rattle.table.specs.Outcome.{zeros}
-use Rattle.table.specs.Refusal.{number, refusedNumbers}
+use Rattle.table.specs.Outcome.{Outcome}
+use Rattle.table.specs.Refusal.{number, refusedNumbers, clears}
 use Rattle.table.specs.declared.Refusal.{Refusal}
 use Rattle.table.specs.declared.Refusal.the-variants.{Limits, Broken, Node, Text, Rule, Steps, Nodes, Frames, Out}
 use Rattle.table.specs.declared.Refusal.the-variants as refusal
-use Rattle.table.proofs.Words.{length-cleared, cleared-inside, cleared-beyond}
 use Rattle.ternary.specs.Write.{lacks}
-use Rattle.ternary.specs.Held.{Spent, no-out, no-frame}
 use Rattle.ternary.proofs.OneText.{zero-one}
-use Rattle.applying.proofs.Cases.{says-by}
+use Rattle.ternary.specs.Held.{Spent, no-out, no-frame}
+use Rattle.applying.specs.Machine.{State}
+use Rattle.applying.specs.Lacks.{Lacks, no-place, all-held, Halts, limit-reached, at-use}
 use Rattle.fields.specs.Packet.{Packet, packet}
-use Rattle.running.specs.Run.{Whole, run, ranNumbers}
+use Rattle.running.specs.Run.{run, ranNumbers}
+use Rattle.running.specs.Claims.{Fit, Checked, ReadStops, no-nodes, no-frames, later, ApplyStops, Stops, translate-nodes, translate-frames, in-read, in-apply, in-write, Refuses, too-long, no-packet, no-rule, no-text, stops, Undid, BadRule, BadText}
+use Rattle.running.specs.declared.Ran.{Ran}
 use Rattle.running.specs.declared.Ran.the-variants.{Refused}
-use Rattle.running.proofs.Outcomes.{Fit, ReadStops, no-nodes, no-frames, later, ApplyStops, Stops, translate-nodes, translate-frames, in-read, in-apply, in-write, Staged}
+use Rattle.running.proofs.Outcomes.{Staged}
 use Rattle.running.proofs.Outcomes as outcomes
-use Rattle.running.proofs.Checks.{Checked, Unreadable, Refuses, too-long, no-packet, no-rule, no-text, stops, run-long, run-broken-packet, run-bad-rule, run-bad-text, run-checked, Checks, fails, passes, checks}
-
--- "7 to 10"
-abbrev pub Late : Refusal → Type 0
-Late Limits = ⊥
-Late Broken = ⊥
-Late Node = ⊥
-Late Text = ⊥
-Late Rule = ⊥
-Late refusal.Packet = ⊥
-Late Steps = Unit {0}
-Late Nodes = Unit {0}
-Late Frames = Unit {0}
-Late Out = Unit {0}
+use Rattle.running.proofs.Checks.{run-long, run-broken-packet, run-bad-rule, run-bad-text, run-checked, Checks, fails, passes, checks}
 
 -- a stage stops for nodes, frames or out bytes, or an application for steps
 pub stops-by : (P : Refusal → Type 0) {w s o : List ℕ} {p : Packet} {t : Term} {args : List Tree} → (ApplyStops w s p t args Steps → P Steps) → P Nodes → P Frames → P Out
     → {e : Refusal} {m : ℕ} → Stops w s o p t args e m → P e
 stops-by P a b c d (translate-nodes h) = b
 stops-by P a b c d (translate-frames h k) = c
-stops-by P a b c d (in-read r) = go r
+stops-by P a b c d (in-read i r) = go r
   where
     go : {w s : List ℕ} {u : ℕ} {ls : List (List ℕ)} {e : Refusal} {m : ℕ} → ReadStops w s u ls e m → P e
     go (no-nodes h) = b
     go (no-frames h k) = c
     go (later h k r) = go r
-stops-by P {w = w} {s = s} {p = p} {t = t} {args = args} a b c d (in-apply {e = e} x h) =
-    says-by (λ (e : Refusal). ApplyStops w s p t args e → P e) absurd absurd absurd (λ l. a) (λ l y. b) (λ l y. c) e (x .lacking) x
-stops-by P a b c d (in-write x h r l) = go r
+stops-by P {w = w} {s = s} {p = p} {t = t} {args = args} a b c d (in-apply i j x h k) = go (x .halts) x
+  where
+    lacked : {all : ℕ} {z : State} {e : Refusal} → Lacks all z e → P e
+    lacked (no-place h l) = b
+    lacked (all-held h l) = c
+
+    go : {all limit : ℕ} {z : State} {e : Refusal} → Halts all limit z e → ApplyStops w s p t args e → P e
+    go (limit-reached h l) x = a x
+    go (at-use h l m) x = lacked m
+stops-by P a b c d (in-write i j x h r k l) = go r
   where
     go : {all held n : ℕ} {r : Tree} {e : Refusal} → Spent all held r n (lacks e) → P e
     go (no-out h) = d
     go (no-frame h) = c
 
 -- the stages stop with 7 to 10 alone
-pub stops-late : {w s o : List ℕ} {p : Packet} {t : Term} {args : List Tree} {e : Refusal} {m : ℕ} → Stops w s o p t args e m → Late e
-stops-late = stops-by Late (λ a. tt) tt tt tt
+pub stops-clears : {w s o : List ℕ} {p : Packet} {t : Term} {args : List Tree} {e : Refusal} {m : ℕ} → Stops w s o p t args e m → clears e ≡ true
+unfolding clears number
+stops-clears = stops-by (λ (e : Refusal). clears e ≡ true) (λ a. refl) refl refl refl
 
-pub refuses-with : {w s o l : List ℕ} {x : Whole} {e : Refusal} → Refuses w s o l x e → x .answer ≡ Refused e
-refuses-with (too-long h q) = ap (λ (z : Whole). z .answer) q
-refuses-with (no-packet f h q) = ap (λ (z : Whole). z .answer) q
-refuses-with (no-rule f h k q) = ap (λ (z : Whole). z .answer) q
-refuses-with (no-text f h k u q) = ap (λ (z : Whole). z .answer) q
-refuses-with (stops c h k q) = ap (λ (z : Whole). z .answer) q
+no-stage : {A : Type 0} {w s o : List ℕ} {p : Packet} {t : Term} {args : List Tree} {e : Refusal} {m : ℕ} → Stops w s o p t args e m → clears e ≡ false → A
+no-stage h k = zero-one (cc (stops-clears h))
 
--- What a Run that is refused with 7 to 10 leaves of the table w and the stack s. Run takes the table as empty, so the nodes made are 0 to `made` − 1.
-pub record Undid (w s : List ℕ) (x : Whole) : Type 0 where
-  pub made : ℕ
-  pub within : made ≤ capacity w
-  pub same-length : length (x .table) ≡ length w
-  pub made-cleared : (i : ℕ) → i < made * 2 → getD (x .table) i 0 ≡ 0
-  pub beyond : (i : ℕ) → made * 2 ≤ i → getD (x .table) i 0 ≡ getD w i 0
-  pub stack : x .stack ≡ zeros s
-
--- the conditions of 5 and 4, where those before are passed
-abbrev pub BadRule : List ℕ → List ℕ → List ℕ → List ℕ → Type 0
-BadRule w s o l = Fit w s o × (p : Packet) × (packet l ≡ some p) × (rule (p .rule) ≡ none)
-
-abbrev pub BadText : List ℕ → List ℕ → List ℕ → List ℕ → Type 0
-BadText w s o l = Fit w s o × (p : Packet) × (packet l ≡ some p) × (t : Term) × (rule (p .rule) ≡ some t) × Unreadable (p .arguments)
+pub refuses-with : {w s o l : List ℕ} {x : Outcome Ran} {e : Refusal} → Refuses w s o l x e → x .answer ≡ Refused e
+refuses-with (too-long h q) = ap (λ (z : Outcome Ran). z .answer) q
+refuses-with (no-packet f h q) = ap (λ (z : Outcome Ran). z .answer) q
+refuses-with (no-rule f h k q) = ap (λ (z : Outcome Ran). z .answer) q
+refuses-with (no-text f h k u q) = ap (λ (z : Outcome Ran). z .answer) q
+refuses-with (stops c h k q) = ap (λ (z : Outcome Ran). z .answer) q
 
 module _ (w s o l : List ℕ) where
   -- "A refusal returns its number [..] Numbers 1 to 6 [..] leave lent memory as found. Numbers 7 to 10 set to 0 the words of the nodes made in the call
@@ -115,48 +96,43 @@ module _ (w s o l : List ℕ) where
       go (stops c h k r) = cc
 
   -- "Numbers 1 to 6 [..] leave lent memory as found."
-  pub refused-early : (e : Refusal) → run w s o l .answer ≡ Refused e → (Late e → ⊥) → (run w s o l .table ≡ w) × (run w s o l .stack ≡ s)
+  pub refused-early : (e : Refusal) → run w s o l .answer ≡ Refused e → clears e ≡ false → (run w s o l .table ≡ w) × (run w s o l .stack ≡ s)
   refused-early e q = go (run-refused e q)
     where
-      go : {c : Refusal} → Refuses w s o l (run w s o l) c → (Late c → ⊥) → (run w s o l .table ≡ w) × (run w s o l .stack ≡ s)
+      go : {c : Refusal} → Refuses w s o l (run w s o l) c → clears c ≡ false → (run w s o l .table ≡ w) × (run w s o l .stack ≡ s)
       go (too-long h r) n = (cc, cc)
       go (no-packet f h r) n = (cc, cc)
       go (no-rule f h k r) n = (cc, cc)
       go (no-text f h k u r) n = (cc, cc)
-      go (stops c h k r) n = absurd (n (stops-late h))
+      go (stops c h k r) n = no-stage h n
 
   -- "Numbers 7 to 10 set to 0 the words of the nodes made in the call and the whole stack"
-  pub refused-late : (e : Refusal) → run w s o l .answer ≡ Refused e → Late e → Undid w s (run w s o l)
+  pub refused-late : (e : Refusal) → run w s o l .answer ≡ Refused e → clears e ≡ true → Undid w s o l e (run w s o l)
+  unfolding clears number
   refused-late e q = go (run-refused e q)
     where
-      go : {c : Refusal} → Refuses w s o l (run w s o l) c → Late c → Undid w s (run w s o l)
-      go (too-long h r) n = absurd n
-      go (no-packet f h r) n = absurd n
-      go (no-rule f h k r) n = absurd n
-      go (no-text f h k u r) n = absurd n
-      go (stops c {m = m} h k r) n =
-          let t : run w s o l .table ≡ cleared w 0 (m * 2) = cc in
-          record {
-            made = m;
-            within = k;
-            same-length = ap length t ∙ length-cleared w 0 (m * 2) (omega arith) (omega arith);
-            made-cleared = λ i b. rw t (cleared-inside w 0 (m * 2) i (omega arith) b (omega arith));
-            beyond = λ i b. rw t (cleared-beyond w 0 (m * 2) i (omega arith) b (omega arith));
-            stack = cc;
-          }
+      go : {c : Refusal} → Refuses w s o l (run w s o l) c → clears c ≡ true → Undid w s o l c (run w s o l)
+      go (too-long h r) n = zero-one (cc)
+      go (no-packet f h r) n = zero-one (cc)
+      go (no-rule f h k r) n = zero-one (cc)
+      go (no-text f h k u r) n = zero-one (cc)
+      go (stops {p = p} {t = t} {args = args} c {m = m} h k r) n =
+          record { sent = p; term = t; args = args; checked = c; made = m; stopped = h; within = k; table = cc; stack = cc }
 
   -- Run takes "the table taken as empty", so that no node is broken and no node number is the caller's: 2 and 3 do not come.
   pub never-broken : run w s o l .answer ≡ Refused Broken → ⊥
+  unfolding clears number
   never-broken q = go (run-refused Broken q)
     where
       go : Refuses w s o l (run w s o l) Broken → ⊥
-      go (stops c h k r) = stops-late h
+      go (stops c h k r) = no-stage h refl
 
   pub never-node : run w s o l .answer ≡ Refused Node → ⊥
+  unfolding clears number
   never-node q = go (run-refused Node q)
     where
       go : Refuses w s o l (run w s o l) Node → ⊥
-      go (stops c h k r) = stops-late h
+      go (stops c h k r) = no-stage h refl
 
   -- "A refusal returns its number [..] and 0 for node number, steps and digits." "On refusal used is 0."
   pub refused-numbers : (e : Refusal) → run w s o l .answer ≡ Refused e
@@ -166,32 +142,36 @@ module _ (w s o l : List ℕ) where
 
   -- "1: lengths only."
   pub run-limits : (run w s o l .answer ≡ Refused Limits) ↔ (Fit w s o → ⊥)
-  run-limits = (λ q. go (run-refused Limits q), λ h. ap (λ (x : Whole). x .answer) (run-long l h))
+  unfolding clears number
+  run-limits = (λ q. go (run-refused Limits q), λ h. ap (λ (x : Outcome Ran). x .answer) (run-long l h))
     where
       go : Refuses w s o l (run w s o l) Limits → Fit w s o → ⊥
       go (too-long h r) = h
-      go (stops c h k r) = λ f. stops-late h
+      go (stops c h k r) = no-stage h refl
 
   -- "6: packet broken."
   pub run-packet : (run w s o l .answer ≡ Refused refusal.Packet) ↔ (Fit w s o × (packet l ≡ none))
-  run-packet = (λ q. go (run-refused refusal.Packet q), λ h. ap (λ (x : Whole). x .answer) (run-broken-packet l (h .0) (h .1)))
+  unfolding clears number
+  run-packet = (λ q. go (run-refused refusal.Packet q), λ h. ap (λ (x : Outcome Ran). x .answer) (run-broken-packet l (h .0) (h .1)))
     where
       go : Refuses w s o l (run w s o l) refusal.Packet → Fit w s o × (packet l ≡ none)
       go (no-packet f h r) = (f, h)
-      go (stops c h k r) = absurd (stops-late h)
+      go (stops c h k r) = no-stage h refl
 
   -- "5: its rule."
   pub run-rule : (run w s o l .answer ≡ Refused Rule) ↔ BadRule w s o l
-  run-rule = (λ q. go (run-refused Rule q), λ h. ap (λ (x : Whole). x .answer) (run-bad-rule l (h .0) (h .2) (h .3)))
+  unfolding clears number
+  run-rule = (λ q. go (run-refused Rule q), λ h. ap (λ (x : Outcome Ran). x .answer) (run-bad-rule l (h .0) (h .2) (h .3)))
     where
       go : Refuses w s o l (run w s o l) Rule → BadRule w s o l
       go (no-rule f {p = p} h k r) = (f, p, h, k)
-      go (stops c h k r) = absurd (stops-late h)
+      go (stops c h k r) = no-stage h refl
 
   -- "4: its arguments' texts, first to last."
   pub run-text : (run w s o l .answer ≡ Refused Text) ↔ BadText w s o l
-  run-text = (λ q. go (run-refused Text q), λ h. ap (λ (x : Whole). x .answer) (run-bad-text l (h .0) (h .2) (h .4) (h .5)))
+  unfolding clears number
+  run-text = (λ q. go (run-refused Text q), λ h. ap (λ (x : Outcome Ran). x .answer) (run-bad-text l (h .0) (h .2) (h .4) (h .5)))
     where
       go : Refuses w s o l (run w s o l) Text → BadText w s o l
       go (no-text f {p = p} h {t = t} k u r) = (f, p, h, t, k, u)
-      go (stops c h k r) = absurd (stops-late h)
+      go (stops c h k r) = no-stage h refl

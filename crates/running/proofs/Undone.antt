@@ -1,135 +1,131 @@
 -- What a stage of Run that is refused leaves of the table, and what Run then leaves. Assumes nothing.
-use Prim.Native.Nat.{ℕ, _+_, _*_, _≤_, _<_}
-use mathlib.Core.Path.{_≡_, refl, sym, ap, _∙_}
+use Prim.Native.Nat.{ℕ, _+_, _-_, _*_, _≤_, _<_}
+use mathlib.Core.Path.{_≡_, refl, sym, _∙_}
 use mathlib.Core.Bool.{Bool, true, false}
-use mathlib.Core.List.{List}
+use mathlib.Core.List.{List, _∷_}
 use native.Mathlib.Omega.{arith}
 use lib.ListN.{length, getD}
 use lib.Seq.{ext-getD}
 use lib.Dec.{ltb, leb}
-use borrow.Author.Tests.{ltb-true, ltb-false, lt-ltb}
-use Rattle.table.specs.Nodes.{Table, capacity, Sound, cleared}
+use borrow.Author.Tests.{ltb-true, ltb-false}
+use Rattle.table.specs.Nodes.{Table, Placed, capacity, Sound, cleared}
 use Rattle.table.specs.Outcome.{frames, zeros, stopped}
 use Rattle.table.specs.declared.Refusal.{Refusal}
-use Rattle.table.specs.declared.Refusal.the-variants.{Steps, Nodes, Frames}
-use Rattle.table.proofs.Words.{length-cleared, cleared-inside, cleared-beyond}
+use Rattle.table.proofs.Words.{cleared-none, length-cleared, cleared-inside, cleared-beyond}
 use Rattle.table.proofs.Trees.{Extends}
-use Rattle.table.proofs.Entry.{Entered, enters, stopped-undone}
+use Rattle.table.proofs.Entry.{Entered}
 use Rattle.applying.specs.declared.Applied.the-variants.{Refused}
-use Rattle.applying.specs.Machine.{State, Turn, more, done, stop, uses}
-use Rattle.applying.specs.Apply.{settle, begin, applyNodes, apply}
-use Rattle.applying.proofs.States.{Later, uses-later, Counted, uses-steps}
-use Rattle.applying.proofs.Cases.{Says, says-by, good-begin}
-use Rattle.applying.proofs.Stops.{stop-lacks, LacksWithin, apply-stops}
-use Rattle.running.proofs.Grown.{Grown, uses-grown}
+use Rattle.applying.specs.Machine.{Turn, more, done, stop, uses, made}
+use Rattle.applying.specs.Apply.{settle, begin, apply}
+use Rattle.applying.specs.Lacks.{Halts, ApplyLacks, at-entry, halts}
+use Rattle.applying.proofs.States.{uses-made, made-within}
+use Rattle.applying.proofs.Cases.{Ways, refused, ran, ways, none-lacks, good-begin}
+use Rattle.applying.proofs.Stops.{apply-lacks}
+use Rattle.running.specs.Claims.{madeOnwards, madeAll}
 
--- The words x that a refused stage leaves where it found the table t: the words of the nodes up to m, made by it, are 0, and those past them are
--- as found. What lies below is not asked: Run clears it.
+-- The words x that a refused stage leaves where it found the table t: the words of the nodes up to m, made by it, are 0, and all others as found.
 pub record Back (t : Table) (m : ℕ) (x : List ℕ) : Type 0 where
   pub up : t .used ≤ m
   pub within : m ≤ capacity (t .words)
-  pub same-length : length x ≡ length (t .words)
-  pub made-cleared : (i : ℕ) → t .used * 2 ≤ i → i < m * 2 → getD x i 0 ≡ 0
-  pub beyond : (i : ℕ) → m * 2 ≤ i → getD x i 0 ≡ getD (t .words) i 0
+  pub words-are : x ≡ cleared (t .words) (t .used * 2) (m * 2)
 
 -- "Read, Translate and Label meet 8 and 9 before they make a node": the words are as found
 pub back-same : {t : Table} {x : List ℕ} → Sound t → x ≡ t .words → Back t (t .used) x
-back-same s e =
-    record { up = omega arith; within = s .within; same-length = ap length e; made-cleared = λ i h l. absurd (omega arith); beyond = λ i h. rw e }
+back-same {t} s e = record { up = omega arith; within = s .within; words-are = e ∙ sym (cleared-none (t .words) (t .used * 2)) }
 
 -- Run found the words w with no node in use, and clears the nodes that t has: all nodes made since are cleared, and the rest is as found.
 pub back-cleared : {w : List ℕ} {t : Table} {m : ℕ} {x : List ℕ} → Extends (record { words = w; used = 0 }) t → Back t m x
     → cleared x 0 (t .used * 2) ≡ cleared w 0 (m * 2)
 back-cleared {w} {t} {m} {x} e b =
-    ext-getD 0 (cleared x 0 (t .used * 2)) (cleared w 0 (m * 2)) (p ∙ b .same-length ∙ e .kept .same-length ∙ sym q)
-    (λ (i : ℕ) (h : i < length (cleared x 0 (t .used * 2))). go i (ltb i (t .used * 2)) (ltb i (m * 2)) refl refl)
+    rw (b .words-are)
+    (ext-getD 0 (cleared y 0 a) (cleared w 0 c) (p ∙ y-length ∙ e .kept .same-length ∙ sym q)
+    (λ (i : ℕ) (h : i < length (cleared y 0 a)). go i (ltb i a) (ltb i c) refl refl))
   where
-    within : t .used * 2 ≤ length x
-    within = omega (arith, b .up, b .within, b .same-length)
+    a : ℕ
+    a = t .used * 2
 
-    all-within : m * 2 ≤ length w
-    all-within = omega (arith, b .within, e .kept .same-length)
+    c : ℕ
+    c = m * 2
 
-    p : length (cleared x 0 (t .used * 2)) ≡ length x
-    p = length-cleared x 0 (t .used * 2) (omega arith) within
+    y : List ℕ
+    y = cleared (t .words) a c
 
-    q : length (cleared w 0 (m * 2)) ≡ length w
-    q = length-cleared w 0 (m * 2) (omega arith) all-within
+    up : a ≤ c
+    up = omega (arith, b .up)
 
-    go : (i : ℕ) (y z : Bool) → ltb i (t .used * 2) ≡ y → ltb i (m * 2) ≡ z → getD (cleared x 0 (t .used * 2)) i 0 ≡ getD (cleared w 0 (m * 2)) i 0
-    go i true z f g =
-        let h = ltb-true i (t .used * 2) f in
-        cleared-inside x 0 (t .used * 2) i (omega arith) h within ∙ sym (cleared-inside w 0 (m * 2) i (omega arith) (omega (arith, b .up)) all-within)
-    go i false true f g =
-        let h = ltb-false i (t .used * 2) f in
-        let k = ltb-true i (m * 2) g in
-        cleared-beyond x 0 (t .used * 2) i (omega arith) h within ∙ b .made-cleared i h k ∙ sym (cleared-inside w 0 (m * 2) i (omega arith) k all-within)
-    go i false false f g =
-        let h = ltb-false i (t .used * 2) f in
-        let k = ltb-false i (m * 2) g in
-        cleared-beyond x 0 (t .used * 2) i (omega arith) h within
-        ∙ b .beyond i k
+    long : c ≤ length (t .words)
+    long = omega (arith, b .within)
+
+    y-length : length y ≡ length (t .words)
+    y-length = length-cleared (t .words) a c up long
+
+    within : a ≤ length y
+    within = omega (arith, y-length, up, long)
+
+    all-within : c ≤ length w
+    all-within = omega (arith, e .kept .same-length, long)
+
+    p : length (cleared y 0 a) ≡ length y
+    p = length-cleared y 0 a (omega arith) within
+
+    q : length (cleared w 0 c) ≡ length w
+    q = length-cleared w 0 c (omega arith) all-within
+
+    go : (i : ℕ) (f g : Bool) → ltb i a ≡ f → ltb i c ≡ g → getD (cleared y 0 a) i 0 ≡ getD (cleared w 0 c) i 0
+    go i true g d f =
+        let h = ltb-true i a d in
+        cleared-inside y 0 a i (omega arith) h within ∙ sym (cleared-inside w 0 c i (omega arith) (omega (arith, up)) all-within)
+    go i false true d f =
+        let h = ltb-false i a d in
+        let k = ltb-true i c f in
+        cleared-beyond y 0 a i (omega arith) h within ∙ cleared-inside (t .words) a c i h k long ∙ sym (cleared-inside w 0 c i (omega arith) k all-within)
+    go i false false d f =
+        let h = ltb-false i a d in
+        let k = ltb-false i c f in
+        cleared-beyond y 0 a i (omega arith) h within
+        ∙ cleared-beyond (t .words) a c i up k long
         ∙ e .beyond i h
-        ∙ sym (cleared-beyond w 0 (m * 2) i (omega arith) k all-within)
+        ∙ sym (cleared-beyond w 0 c i (omega arith) k all-within)
 
--- What an application from s on lacks at the use where it is refused: "Before each use: refusal 7 if the step limit is reached; then 8 if a new node
--- has no place; then 9 if a frame is needed and all are held." No other refusal is for such a lack.
-abbrev pub Lacking : ℕ → ℕ → State → Refusal → Type 0
-Lacking all limit s =
-    Says ⊥ ((z : State) × (uses all limit s ≡ more z) × (z .steps ≡ limit)) (LacksWithin all limit s Nodes) (LacksWithin all limit s Frames)
+-- an application that passed its checks and is refused with e, having left the words x and the stack y
+pub record Halted (w : List ℕ) (u : ℕ) (s : List ℕ) (f n limit : ℕ) (e : Refusal) (x y : List ℕ) : Type 0 where
+  pub back : Back (record { words = w; used = u }) (u + made (frames s) limit (begin w u f n)) x
+  pub stack : y ≡ zeros s
+  pub halts : Halts (frames s) limit (begin w u f n) e
 
--- not a refusal of Apply's checks at entry
-abbrev pub InUse : Refusal → Type 0
-InUse = Says ⊥ (Unit {0}) (Unit {0}) (Unit {0})
+-- Apply is refused after its checks only at a use that lacks something, and then "the words of the nodes made in the call and the whole stack" are 0.
+pub apply-halts : (w : List ℕ) (u : ℕ) (s : List ℕ) (f n limit : ℕ) (e : Refusal) → Entered (leb limit 1000000) w u s → f < u → n < u
+    → apply w u s f n limit .answer ≡ Refused e → Halted w u s f n limit e (apply w u s f n limit .table) (apply w u s f n limit .stack)
+apply-halts w u s f n limit e i h l q = go (apply-lacks w u s f n limit e q)
+  where
+    go : {x y : List ℕ} → ApplyLacks w u s f n limit e x y → Halted w u s f n limit e x y
+    go (at-entry a) = absurd (none-lacks i h l a)
+    go (halts j c d a) =
+        record {
+          back = record { up = omega arith; within = made-within limit (good-begin i h l); words-are = refl };
+          stack = refl;
+          halts = a;
+        }
 
--- an application that passed its checks and is refused with e
-pub record Halted (w : List ℕ) (u : ℕ) (s : List ℕ) (f n limit : ℕ) (e : Refusal) : Type 0 where
-  pub made : ℕ
-  pub back : Back (record { words = w; used = u }) made (apply w u s f n limit .table)
-  pub most : made ≤ u + limit
-  pub stack : apply w u s f n limit .stack ≡ zeros s
-  pub lacking : Lacking (frames s) limit (begin w u f n) e
+-- one application and those after it: where it completes, they go on with its outcome; where it is refused, none follows
+pub all-on : (all limit : ℕ) (t : Table) (v n : ℕ) (ns : List ℕ) {p : Placed} {j : ℕ} → uses all limit (begin (t .words) (t .used) v n) ≡ done p j
+    → t .used + madeAll all limit t v (n ∷ ns) ≡ p .table .used + madeAll all (limit - j) (p .table) (p .node) ns
+unfolding madeAll madeOnwards
+all-on all limit t v n ns {p} e =
+    let u : p .table .used ≡ t .used + made all limit (begin (t .words) (t .used) v n) = rw e at (uses-made all limit (begin (t .words) (t .used) v n)) in
+    rw e (omega arith)
 
-module _ (w : List ℕ) (u : ℕ) (s : List ℕ) (f n limit : ℕ) where
-  settles : Entered (leb limit 1000000) w u s → f < u → n < u → apply w u s f n limit ≡ settle u s (uses (frames s) limit (begin w u f n))
-  unfolding apply applyNodes
-  settles i h l = rw (enters i, lt-ltb f u h, lt-ltb n u l)
+pub all-stop : (w : List ℕ) (u : ℕ) (s : List ℕ) (f n limit : ℕ) (e : Refusal) → Entered (leb limit 1000000) w u s → f < u → n < u
+    → apply w u s f n limit .answer ≡ Refused e → (ns : List ℕ)
+    → madeAll (frames s) limit (record { words = w; used = u }) f (n ∷ ns) ≡ made (frames s) limit (begin w u f n)
+unfolding madeAll madeOnwards settle stopped
+all-stop w u s f n limit e i h l q ns = go (ways w u s f n limit)
+  where
+    by : (x : Turn) → settle u s x .answer ≡ Refused e → madeOnwards (λ p j. madeAll (frames s) (limit - j) (p .table) (p .node) ns) x ≡ 0
+    by (more z) r = refl
+    by (done p j) r = let z : _≡_ {A = ℕ} 0 1 = cc in absurd (omega arith)
+    by (stop c t) r = refl
 
-  -- Apply is refused after its checks only at a use that lacks something, and then "the words of the nodes made in the call and the whole stack" are 0.
-  pub apply-halts : (e : Refusal) → Entered (leb limit 1000000) w u s → f < u → n < u → apply w u s f n limit .answer ≡ Refused e → Halted w u s f n limit e
-  unfolding settle stopped
-  apply-halts e i h l q =
-      let a = by (uses (frames s) limit (begin w u f n)) refl (uses-later limit (good-begin i h l))
-      (uses-grown (frames s) limit (begin w u f n)) (uses-steps (frames s) limit (begin w u f n)) (rw (settles i h l) at q) in
-      record {
-        made = a .0;
-        back = rw (settles i h l) (a .1);
-        most = a .4;
-        stack = rw (settles i h l) (a .2);
-        lacking = says-by (λ (c : Refusal). InUse c → Lacking (frames s) limit (begin w u f n) c)
-            (λ x y. absurd y) (λ x y. absurd y) (λ x y. absurd y) (λ x y. x) (λ x y. x) (λ x y. x) e (apply-stops w u s f n limit e q) (a .3);
-      }
-    where
-      t : Table
-      t = record { words = w; used = u }
-
-      undone : (c : Refusal) {z : Table} → Extends t z → Sound z → Back t (z .used) (stopped (Refused c) z u s .table)
-      undone c {z} x y =
-          let d = stopped-undone x (y .within) (Refused c) s in
-          record {
-            up = x .kept .up;
-            within = omega (arith, y .within, x .kept .same-length);
-            same-length = d .same-length;
-            made-cleared = d .made-cleared;
-            beyond = d .beyond;
-          }
-
-      by : (x : Turn) → uses (frames s) limit (begin w u f n) ≡ x → Later (frames s) t x → Grown u 0 limit x → Counted 0 limit x
-          → settle u s x .answer ≡ Refused e
-          → (m : ℕ) × Back t m (settle u s x .table) × (settle u s x .stack ≡ zeros s) × InUse e × (m ≤ u + limit)
-      by (more z) r y g c p = let a : Steps ≡ e = cc in (z .table .used, undone Steps (y .extends) (y .fine), refl, rw (← a) tt, omega arith)
-      by (done v j) r y g c p = let n : _≡_ {A = ℕ} 0 1 = cc in absurd (omega arith)
-      by (stop d z) r y g c p =
-          let a : d ≡ e = cc in
-          let b = stop-lacks (frames s) limit (begin w u f n) d z r in
-          (z .used, undone d (y .extends) (y .fine), refl, rw (← a) (says-by InUse absurd absurd absurd absurd (λ x. tt) (λ x. tt) d (b .5)), omega arith)
+    go : Ways w u s f n limit → madeAll (frames s) limit (record { words = w; used = u }) f (n ∷ ns) ≡ made (frames s) limit (begin w u f n)
+    go (refused a r) = absurd (none-lacks i h l a)
+    go (ran j c d r) = omega (arith, by (uses (frames s) limit (begin w u f n)) (rw r at q))

@@ -1,2 +1,3 @@
--- Run. Assumes nothing: these are definitions.
+-- Run, and what is claimed of it. Assumes nothing: these are definitions.
 pub mod Run
+pub mod Claims

@@ -1,5 +1,7 @@
 -- The refusals' numbers, and the numbers of an answer. Assumes nothing: these are definitions.
 use Prim.Native.Nat.{ℕ}
+use mathlib.Core.Bool.{Bool, _&&_}
+use lib.Dec.{leb}
 use Rattle.table.specs.declared.Refusal.{Refusal}
 use Rattle.table.specs.declared.Refusal.the-variants.{Limits, Broken, Node, Text, Rule, Packet, Steps, Nodes, Frames, Out}
 use Rattle.table.specs.declared.Made.{Made}
@@ -34,3 +36,8 @@ refusedNumbers used e = record { refusal = number e; node = 0; used = used; step
 unfoldable pub madeNumbers : ℕ → Made → Numbers
 madeNumbers used (the-variants.Node n u) = record { refusal = 0; node = n; used = u; steps = 0; digits = 0 }
 madeNumbers used (the-variants.Refused e) = refusedNumbers used e
+
+-- "Numbers 1 to 6, and any above 10 added later, leave lent memory as found. Numbers 7 to 10 set to 0 the words of the nodes made in the call and
+-- the whole stack" (Operations): whether a refusal is one that clears memory. Every range of refusals is said by this definition.
+unfoldable pub clears : Refusal → Bool
+clears e = leb 7 (number e) && leb (number e) 10

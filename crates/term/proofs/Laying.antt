@@ -14,8 +14,8 @@ use Rattle.nodes.specs.Code.{placedBy}
 use Rattle.nodes.specs.declared.NewNode.{NewNode}
 use Rattle.table.proofs.Words.{wrote, wrote-other, wrote-first, wrote-second, length-wrote}
 use Rattle.table.proofs.Making.{lay-used, lay-node, size-pos}
-use Rattle.term.specs.Words.{words, Holds, Outside}
-use Rattle.term.proofs.Standing.{left, right, head, tail, moved}
+use Rattle.bracket.specs.Words.{words, Holds, Outside}
+use Rattle.bracket.proofs.Standing.{left, right, head, tail, moved}
 
 module _ (s : List ℕ) (p : ℕ) where
   pub is-leaf : (t : Tree) → Holds s p (words (term t)) → getD s p 0 ≡ 0 → t ≡ leaf

@@ -1,3 +1,2 @@
--- Terms as runs of words, and their weight. Assumes nothing: these are definitions.
-pub mod Words
-pub mod Weight
+-- What laying out a rule's tree asks. Assumes nothing: these are definitions.
+pub mod Code

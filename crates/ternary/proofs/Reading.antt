@@ -13,12 +13,11 @@ use Rattle.calculus.specs.Tree.{Tree, leaf, stem, fork, size}
 use Rattle.table.specs.Nodes.{Table, Placed, capacity, Sound, treeAt, make, lay}
 use Rattle.table.specs.Outcome.{Outcome, whole, frames, zeros, atEntry, unless, placed, laid}
 use Rattle.table.specs.declared.Refusal.{Refusal}
-use Rattle.table.specs.declared.Refusal.the-variants.{Nodes, Frames}
 use Rattle.table.specs.declared.Made.{Made}
 use Rattle.table.specs.declared.Made.the-variants.{Node, Refused}
 use Rattle.table.proofs.Trees.{Kept, kept-trans, kept-tree}
 use Rattle.table.proofs.Making.{Places, has, stays, stem-of, fork-of, lay-used, lay-node, lay-places}
-use Rattle.table.proofs.Entry.{Entered, entered}
+use Rattle.table.proofs.Entry.{Entered, entered, enters}
 use Rattle.table.proofs.Laid.{Room, room-case, room-laid, laid-gives, laid-answer, laid-stack}
 use Rattle.ternary.specs.Text.{text, treeOf, mostPending}
 use Rattle.ternary.specs.Read.{readable, readTree, read}
@@ -87,6 +86,11 @@ module _ (w : List ℕ) (u : ℕ) (s l : List ℕ) where
   read-lays t h =
       rw (h .entered, some-readable (h .readable-as))
       (sym (room-laid w u s (length l) (mostPending l) t (omega arith) (h .frames-enough)))
+
+  -- on an entered table Read is what its inner definition says
+  pub entered-read : Entered true w u s → readTree w u s l (readable l) ≡ read w u s l
+  unfolding read
+  entered-read e = rw (enters e)
 
   -- "Digit p of n becomes node used + n − 1 − p": digit 0 is the node that is given.
   pub read-limits : (t : Tree) → ReadHas w u s l t → read w u s l .answer ≡ Node (u + length l - 1) (u + length l)

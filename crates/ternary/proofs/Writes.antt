@@ -1,5 +1,5 @@
 -- Laws of Write for its callers: the two kinds of its outcome, each refusal exactly on its condition, and what it wrote. Assumes nothing.
-use Prim.Native.Nat.{ℕ, _-_}
+use Prim.Native.Nat.{_<_, ℕ, _-_}
 use mathlib.Core.Path.{_≡_, refl, sym, ap}
 use mathlib.Core.Bool.{Bool, true, false, cond, _&&_}
 use mathlib.Core.List.{List}
@@ -11,10 +11,10 @@ use lib.Dec.{ltb, leb}
 use borrow.Author.Tests.{ltb-true, ltb-false, leb-true, lt-ltb, le-ltb}
 use Rattle.calculus.specs.Tree.{Tree, size}
 use Rattle.table.specs.Nodes.{sound, treeAt}
-use Rattle.table.specs.Outcome.{Outcome, wholeOut, fits, frames, zeros, atEntry, unless}
+use Rattle.table.specs.Outcome.{Outcome, Entered, wholeOut, fits, frames, zeros, atEntry, unless}
 use Rattle.table.specs.declared.Refusal.{Refusal}
 use Rattle.table.specs.declared.Refusal.the-variants.{Limits, Broken, Node, Frames, Out}
-use Rattle.table.proofs.Entry.{entered}
+use Rattle.table.proofs.Entry.{entered, enters}
 use Rattle.ternary.specs.Text.{text}
 use Rattle.ternary.specs.Write.{Room, left, lacks, digits, written, writeTree, write}
 use Rattle.ternary.specs.declared.Written.{Written}
@@ -27,9 +27,9 @@ use Rattle.ternary.proofs.OneText.{zero-one, text-read, length-text}
 use Rattle.ternary.proofs.EachDigit.{digits-spend, spent-digits, digits-left}
 
 -- the checks at entry refuse with 1 or 2
-entry-early : {A : Type 0} (within : Bool) (w : List ℕ) (u : ℕ) (s : List ℕ) {e : Refusal} → atEntry within w u s ≡ some e → (e ≡ Limits → A) → (e ≡ Broken → A) → A
+entry-early : {A : Type 0} (own : Bool) (w : List ℕ) (u : ℕ) (s : List ℕ) {e : Refusal} → atEntry own w u s ≡ some e → (e ≡ Limits → A) → (e ≡ Broken → A) → A
 unfolding atEntry
-entry-early {A} within w u s {e} q a b = go (within && fits w u s) (sound w u) q
+entry-early {A} own w u s {e} q a b = go (own && fits w u s) (sound w u) q
   where
     go : (x y : Bool) → cond x (cond y none (some Broken)) (some Limits) ≡ some e → A
     go true true p = zero-one (cc)
@@ -102,6 +102,11 @@ module _ (w : List ℕ) (u : ℕ) (s : List ℕ) (i : ℕ) (o : List ℕ) where
       go : {s′ : List ℕ} → WriteLacks w u s i o Frames s′ → Begun w u s i o × NoFrame (frames s) 0 (treeAt w i) (length o)
       go (at-entry p) = entry-early (leb (length o) 65535) w u s p (λ a. zero-one (cc)) (λ a. zero-one (cc))
       go (no-room p h (no-frame x)) = ((p, h), x)
+
+  -- on an entered table, with a node in use, Write is what its inner definition says
+  pub entered-write : Entered (leb (length o) 65535) w u s → i < u → writeTree w s o (treeAt w i) ≡ write w u s i o
+  unfolding write
+  entered-write e h = rw (enters e, lt-ltb i u h)
 
   -- With a node in use, a byte for each digit and a frame for each fork, no refusal comes.
   pub write-limits : WriteHas w u s i o → write w u s i o ≡ allWritten w s o (treeAt w i)

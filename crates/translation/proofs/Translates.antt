@@ -24,6 +24,7 @@ pub record Translates (w : List ℕ) (u : ℕ) (s b : List ℕ) (v u′ : ℕ) :
   pub entry : Entered true w u s
   pub term : Term
   pub is-rule : rule b ≡ some term
+  pub had : Has w u s b term
   pub lays : Lays w u (ruleTree term) (translate w u s b) v u′
   pub laid-is : translate w u s b ≡ laid w u s (ruleTree term)
   pub stack : translate w u s b .stack ≡ zeros s
@@ -60,7 +61,7 @@ module _ (w : List ℕ) (u : ℕ) (s b : List ℕ) where
       go (refuses k r) = zero-one (cc)
       go (lays-out {t} h r) =
           let g = laid-gives w u s (ruleTree t) v u′ (h .entered .table) (h .nodes-enough) (cc) in
-          record { entry = h .entered; term = t; is-rule = h .is-rule; lays = rw r g; laid-is = r; stack = rw r (laid-stack w u s (ruleTree t)) }
+          record { entry = h .entered; term = t; is-rule = h .is-rule; had = h; lays = rw r g; laid-is = r; stack = rw r (laid-stack w u s (ruleTree t)) }
 
   module _ (e : Refusal) (q : translate w u s b .answer ≡ Refused e) where
     -- "Numbers 1 to 6 [..] leave lent memory as found. Numbers 7 to 10 set to 0 [..] the whole stack": a refusal comes only on its condition, and
@@ -82,6 +83,11 @@ module _ (w : List ℕ) (u : ℕ) (s b : List ℕ) where
         go : Case w u s b (translate w u s b) → translate w u s b .table ≡ w
         go (refuses k r) = cc
         go (lays-out {t} h r) = zero-one (cc (laid-answer w u s (ruleTree t)))
+
+  -- on an entered table Translate is what its inner definition says
+  pub entered-translate : Entered true w u s → translateRule w u s (rule b) ≡ translate w u s b
+  unfolding translate
+  entered-translate e = rw (enters e)
 
   -- with a sound table, a rule, and room for its tree, Translate lays it out and gives its last node
   pub translate-lays : (t : Term) → Has w u s b t → translate w u s b ≡ laid w u s (ruleTree t)

@@ -2,9 +2,15 @@
 //! Prints tables in Markdown, and writes the plot to the path it is given.
 //!
 //! `bench [PLOT.svg]`
+//!
+//! Or measures Run beside another build of the library, and prints that table alone:
+//!
+//! `bench --beside OTHER/target/staticlib/libffi.a`
 
+mod beside;
 mod evaluator;
 mod measure;
+mod places;
 mod plain;
 mod plot;
 mod workloads;
@@ -14,15 +20,19 @@ use compare::packets::{self, Case};
 use compare::random::Random;
 use compare::trees;
 use measure::{contender, rounds, Contender, Times};
+use places::PLACES;
 use std::cell::RefCell;
 use std::hint::black_box;
 use workloads::Workload;
 
 const ROUNDS: usize = 101;
 
-/// The engine and the C loop as C calls them, out of the shared objects that the build made.
+/// The engine and the C loop as C calls them, out of shared objects, and another build's engine.
 mod c {
+    use crate::places::{link, PLACES};
     use std::ffi::{c_char, c_int, c_void, CString};
+    use std::mem::transmute;
+    use std::path::Path;
 
     pub type Apply = unsafe extern "C" fn(
         *mut u32,
@@ -36,6 +46,18 @@ mod c {
         *mut [usize; 5],
     );
 
+    pub type Run = unsafe extern "C" fn(
+        *mut u32,
+        usize,
+        *mut u32,
+        usize,
+        *mut u8,
+        usize,
+        *const u8,
+        usize,
+        *mut [usize; 5],
+    );
+
     extern "C" {
         fn dlopen(path: *const c_char, flags: c_int) -> *mut c_void;
         fn dlsym(object: *mut c_void, name: *const c_char) -> *mut c_void;
@@ -43,31 +65,55 @@ mod c {
 
     const NOW: c_int = 2;
 
-    /// How many places of its code each contender is measured at: those of build.rs.
-    pub const PLACES: usize = 4;
+    const BUILT: &str = env!("OUT_DIR");
 
-    /// A function of a shared object, once for each place of its code.
-    fn placed(object: &str, function: &str) -> [Apply; PLACES] {
+    /// A function of a shared object in a folder, once for each place of its code.
+    fn placed(folder: &str, object: &str, function: &str) -> [*mut c_void; PLACES.len()] {
         std::array::from_fn(|k| {
-            let path = format!("{}/{object}_{k}.so", env!("OUT_DIR"));
+            let path = format!("{folder}/{object}_{k}.so");
             let path = CString::new(path).expect("a path");
             let function = CString::new(function).expect("a name");
-            // The build links each of these functions with the type `Apply`.
             unsafe {
                 let object = dlopen(path.as_ptr(), NOW);
                 assert!(!object.is_null(), "no {path:?}");
                 let function = dlsym(object, function.as_ptr());
                 assert!(!function.is_null(), "no function in {path:?}");
-                std::mem::transmute::<*mut c_void, Apply>(function)
+                function
             }
         })
     }
 
+    fn apply(object: &str, function: &str) -> [Apply; PLACES.len()] {
+        // The build links each of these functions with the type `Apply`.
+        placed(BUILT, object, function).map(|f| unsafe { transmute::<*mut c_void, Apply>(f) })
+    }
+
+    fn run(folder: &str, object: &str) -> [Run; PLACES.len()] {
+        // The library's header gives this function the type `Run`.
+        let functions = placed(folder, object, "lazvorn_run");
+        functions.map(|f| unsafe { transmute::<*mut c_void, Run>(f) })
+    }
+
+    /// This build's Run.
+    pub fn runs() -> [Run; PLACES.len()] {
+        run(BUILT, "libffi")
+    }
+
+    /// The Run of another build's archive.
+    pub fn runs_of(archive: &Path) -> [Run; PLACES.len()] {
+        let folder = format!("{BUILT}/other");
+        std::fs::create_dir_all(&folder).expect("a folder");
+        let linker = if cfg!(clang) { "clang" } else { "gcc" };
+        link(linker, archive, Path::new(&folder));
+        let name = archive.file_stem().expect("a file");
+        run(&folder, &name.to_string_lossy())
+    }
+
     /// The engine, and the C loop as each compiler made it that was there.
-    pub fn applies() -> Vec<(&'static str, [Apply; PLACES])> {
-        let loops = |name: &str| placed(name, name);
+    pub fn applies() -> Vec<(&'static str, [Apply; PLACES.len()])> {
+        let loops = |name: &str| apply(name, name);
         vec![
-            ("engine", placed("libffi", "lazvorn_apply")),
+            ("engine", apply("libffi", "lazvorn_apply")),
             #[cfg(gcc)]
             ("C, gcc -O3", loops("apply_gcc")),
             #[cfg(clang)]
@@ -116,7 +162,7 @@ fn apply() {
             format!("{middle:.2} ({low:.2} to {high:.2})")
         });
         let beside: Vec<String> = beside.collect();
-        let engine = 1e6 * engine.median() / c::PLACES as f64;
+        let engine = 1e6 * engine.median() / PLACES.len() as f64;
         println!(
             "| {name} | {steps} | {engine:.3} | {} |",
             beside.join(" | ")
@@ -180,7 +226,7 @@ fn applied(workload: Workload) -> Vec<Times> {
         }));
     }
     contenders.push(contender("safe Rust, same checks", || {
-        for _ in 0..c::PLACES {
+        for _ in PLACES {
             let w = &mut *cell.borrow_mut();
             let answer = plain::apply(
                 &mut w.table,
@@ -194,7 +240,7 @@ fn applied(workload: Workload) -> Vec<Times> {
         }
     }));
     contenders.push(contender("second evaluator, its whole run", || {
-        for _ in 0..c::PLACES {
+        for _ in PLACES {
             black_box(second::run(&packet, room).is_ok());
         }
     }));
@@ -387,10 +433,15 @@ fn running(what: &str, cases: &[Case]) {
     rows(what, &times);
 }
 
+/// Packets as `compare` makes them.
+fn compared() -> Vec<Case> {
+    let mut random = Random::new(20_261_115);
+    (0..2_000).map(|_| packets::case(&mut random)).collect()
+}
+
 fn packets() {
     head("Run");
-    let mut random = Random::new(20_261_115);
-    let cases: Vec<Case> = (0..2_000).map(|_| packets::case(&mut random)).collect();
+    let cases = compared();
     running("2,000 packets as they are compared", &cases);
     let runs = |case: &&Case| second::run(&case.packet, second::PROGRAM).is_ok();
     let cases: Vec<Case> = cases.iter().filter(runs).cloned().collect();
@@ -399,13 +450,15 @@ fn packets() {
 
 // ---- growth
 
-/// Memory to lend: the most words that a table and a stack may have, and the most out bytes.
+/// Memory to lend.
+#[derive(PartialEq)]
 struct Memory {
     table: Vec<u32>,
     stack: Vec<u32>,
     out: Vec<u8>,
 }
 
+/// The most words that a table may have, whole frames and the most out bytes.
 fn memory() -> Memory {
     Memory {
         table: vec![0; 131_072],
@@ -545,7 +598,12 @@ fn print_growth(lines: &[plot::Line]) {
 }
 
 fn bench() {
-    let path = std::env::args().nth(1);
+    let mut arguments = std::env::args().skip(1);
+    let path = arguments.next();
+    if path.as_deref() == Some("--beside") {
+        let archive = arguments.next().expect("the other build's libffi.a");
+        return beside::beside(archive.as_ref());
+    }
     apply();
     texts_and_rules();
     packets();

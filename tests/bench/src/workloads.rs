@@ -146,6 +146,16 @@ pub fn endless(limit: usize) -> Workload {
     )
 }
 
+/// λf. f f (λx. Δx) Δ on the rule that applies five times: a long evaluation of a packet with one
+/// argument.
+pub fn stems() -> Parts {
+    Parts {
+        rule: [&[2, 1, 1, 1, 3, 0, 3, 0], STEM, &[0]].concat(),
+        arguments: vec![text_of(&times(5))],
+        limit: Some(1_000_000),
+    }
+}
+
 pub fn all() -> Vec<Workload> {
     let (three, five) = (times(3), times(5));
     vec![

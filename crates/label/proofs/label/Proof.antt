@@ -1,8 +1,12 @@
 -- `label::label` meets its contract: each check that is met leads to its refusal. Assumes nothing.
 use mathlib.Core.Path.{_≡_, refl, sym, ap, _∙_}
 use native.Mathlib.Omega.{arith}
-use Rattle.table.proofs.Entry.{entered}
-use Rattle.label.proofs.Ways.{refused-entry, no-rule, no-label, no-nodes, is-labelled, nodes-by, constant-numbers}
+use mathlib.Core.List.{[]}
+use Rattle.table.specs.Outcome.{whole}
+use Rattle.table.specs.declared.Made.the-variants.{Refused}
+use Rattle.table.proofs.Entry.{entered, check-refuses}
+use Rattle.label.specs.Label as labelling
+use Rattle.label.proofs.Ways.{no-rule, no-label, no-nodes, is-labelled, nodes-by, constant-numbers}
 use borrow.Author.Needs.{needs}
 use Rattle.label.proofs.label.Statement.{statement}
 use Rattle.label.proofs.label.Tie as tie
@@ -20,9 +24,10 @@ same-length : tie.Need-same-length
 same-length c = search needs
 
 returns : tie.Need-returns
+unfolding labelling.label
 returns c =
     let a = c .before .before .before .before .before .before .before .args in
-    refused-entry (a .table .now) (a .used) (a .rule) (a .label) (rw (c .before .checked .given .1) at (c .before .before .before .check .ensures))
+    check-refuses (λ e. whole (Refused e) (a .table .now) []) _ (rw (c .before .checked .given .1) at (c .before .before .before .check .ensures))
 
 enum-told : tie.Need-enum-told
 enum-told c = search needs

@@ -1,7 +1,5 @@
--- `machine::apply` meets its contract: the checks at entry, the uses, and how they end. Assumes nothing.
-use Rattle.machine.specs.Code.{framesOf}
-use Rattle.applying.proofs.Cases.{good-begin}
-use Rattle.machine.proofs.Settled.{refuse-entry, passed-by, refuse-function, refuse-argument, within-limit, used-in, settled}
+-- `machine::apply` meets its contract: the checks at entry, then the application. Assumes nothing.
+use Rattle.machine.proofs.Settled.{refuse-entry, passed-by, within-limit, refuse-function, refuse-argument, by-nodes}
 use borrow.Author.Needs.{needs}
 use native.Mathlib.Omega.{arith}
 use Rattle.machine.proofs.apply.Statement.{statement}
@@ -40,7 +38,7 @@ returns-2 c =
     let k = c .before in
     let h = k .before .before in
     let a = h .before .before .before .before .before .args in
-    refuse-function (a .function) (a .argument) (a .limit) (passed-by (h .check .ensures) (k .enum-told .given .1)) (omega arith)
+    refuse-function (a .table .now) (a .used) (a .stack .now) (a .function) (a .argument) (a .limit) (h .check .ensures) (k .enum-told .given .1) (omega arith)
 
 same-length-5 : tie.Need-same-length-5
 same-length-5 c = search needs
@@ -53,26 +51,20 @@ returns-3 c =
     let k = c .before .before in
     let h = k .before .before in
     let a = h .before .before .before .before .before .args in
-    refuse-argument (a .function) (a .argument) (a .limit) (passed-by (h .check .ensures) (k .enum-told .given .1)) (omega arith) (omega arith)
+    refuse-argument (a .table .now) (a .used) (a .stack .now) (a .function) (a .argument) (a .limit) (h .check .ensures) (k .enum-told .given .1)
+    (c .before .if1 .left) (omega arith)
 
-uses-requires : tie.Need-uses-requires
-unfolding framesOf
-uses-requires c κs =
-    let k = c .before .before .before .before in
-    let h = k .before .before in
-    let a = h .before .before .before .before .before .args in
-    let i = passed-by (h .check .ensures) (k .enum-told .given .1) in
-    (good-begin i (omega arith) (omega arith), omega (arith, within-limit (a .function) (a .argument) (a .limit) i))
-
-settle-requires : tie.Need-settle-requires
-unfolding framesOf
-settle-requires c κs =
-    let r = c .before .before .before .before .before .before in
-    let d = r .before .before .before in
+apply-nodes-requires : tie.Need-apply-nodes-requires
+apply-nodes-requires c κs =
+    let d = c .before .before in
     let k = d .before .before in
     let h = k .before .before in
-    let a = h .before .before .before .before .before .args in
-    used-in (a .function) (a .argument) (a .limit) (passed-by (h .check .ensures) (k .enum-told .given .1)) (d .before .if1 .left) (d .if2 .left) (r .uses .result) (r .uses .last .0) (r .uses .last .1 .0) (r .uses .ensures)
+    let a = h .before .before .before .before .before .args in (
+      passed-by (a .table .now) (a .used) (a .stack .now) (a .function) (a .argument) (a .limit) (h .check .ensures) (k .enum-told .given .1) .table,
+      d .before .if1 .left,
+      d .if2 .left,
+      within-limit (a .table .now) (a .used) (a .stack .now) (a .function) (a .argument) (a .limit) (h .check .ensures) (k .enum-told .given .1),
+    )
 
 same-length-7 : tie.Need-same-length-7
 same-length-7 c = search needs
@@ -81,16 +73,14 @@ same-length-8 : tie.Need-same-length-8
 same-length-8 c = search needs
 
 returns-4 : tie.Need-returns-4
-unfolding framesOf
 returns-4 c =
     let e = c .before .before .before .before in
-    let r = e .before .before .before .before .before .before .before in
-    let d = r .before .before .before in
+    let d = e .before .before .before in
     let k = d .before .before in
     let h = k .before .before in
     let a = h .before .before .before .before .before .args in
-    settled (a .function) (a .argument) (a .limit) (passed-by (h .check .ensures) (k .enum-told .given .1)) (d .before .if1 .left) (d .if2 .left) (r .uses .result) (r .uses .last .0) (r .uses .last .1 .0) (r .uses .ensures) _
-    (r .uses .kept .1 .0) (e .settle .ensures)
+    by-nodes (a .table .now) (a .used) (a .stack .now) (a .function) (a .argument) (a .limit) (h .check .ensures) (k .enum-told .given .1)
+    (d .before .if1 .left) (d .if2 .left) _ (e .apply-nodes .ensures)
 
 pub apply-spec : {M : Type 1} → statement M
 apply-spec =
@@ -108,8 +98,7 @@ apply-spec =
     same-length-5
     same-length-6
     returns-3
-    uses-requires
-    settle-requires
+    apply-nodes-requires
     same-length-7
     same-length-8
     returns-4)

@@ -7,13 +7,13 @@ use lib.ListN.{length}
 use types.Run
 use denote.Enum.Declared
 use Rattle.table.specs.Outcome.{frames}
-use Rattle.machine.specs.declared.End.{End}
-use Rattle.machine.specs.declared.End.the-variants as ended
-use Rattle.machine.specs.declared.Machine.{Machine}
+use Rattle.frames.specs.declared.End.{End}
+use Rattle.frames.specs.declared.End.the-variants as ended
+use Rattle.frames.specs.declared.Machine.{Machine}
 use Rattle.applying.specs.Machine.{State, Turn, more, turn, after}
-use Rattle.machine.specs.Code.{stateOf, endOf}
-use Rattle.machine.proofs.End as end-type
-use Rattle.machine.proofs.Steps.{Going, going-start, going-on, going-over, going-out}
+use Rattle.frames.specs.Code.{stateOf, endOf}
+use Rattle.frames.proofs.End as end-type
+use Rattle.machine.proofs.Going.{Going, going-start, going-on, going-over, going-out}
 use borrow.Author.Needs.{needs}
 use native.Mathlib.Omega.{arith}
 use Rattle.machine.proofs.uses.Statement.{statement}

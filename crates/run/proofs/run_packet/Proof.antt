@@ -3,6 +3,8 @@ use mathlib.Core.Path.{_≡_, refl, sym, ap, _∙_}
 use native.Mathlib.Omega.{arith}
 use borrow.Author.Tests.{not-true, not-false}
 use Rattle.packet.proofs.Parts.{packet-parts, part-value}
+use Rattle.running.proofs.Limit.{packet-limit}
+use Rattle.stages.proofs.Ways.{empty-ready}
 use Rattle.run.proofs.Ways.{packet-none, rule-none, text-none, all-checked}
 use borrow.Author.Needs.{needs}
 use Rattle.run.proofs.run_packet.Statement.{statement}
@@ -61,7 +63,8 @@ returns-3 c =
 run-stages-requires : tie.Need-run-stages-requires
 run-stages-requires c κs =
     let p = packet-parts (c .before .before .before .before .before .before .before .before .before .before .before .before .before .before .before .before .before .args .packet .now) _ _ (sym (c .before .before .before .before .before .before .before .before .before .before .arguments .given .1) ∙ c .before .before .before .before .before .before .before .before .before .before .before .before .read-packet .ensures) in
-    (p .rule-stands, p .stand, p .few)
+    let q = c .before .before .before .before .before .before .before .before .before .before .before .before .before .before .before .before .before .pre in
+    (empty-ready (q .0) (q .1) (q .2), packet-limit _ (p .is-packet), p .few, p .rule-stands, p .stand)
 
 same-length : tie.Need-same-length
 same-length c = search needs

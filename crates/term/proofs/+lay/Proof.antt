@@ -1,10 +1,10 @@
 -- `term::lay` meets its contract, by the first word of the tree's run. The measure is what is left of the run. Assumes nothing.
-use Prim.Native.Nat.{ℕ, _+_, _-_, _<_}
+use Prim.Native.Nat.{ℕ, _-_, _<_}
 use mathlib.Core.Path.{_∙_}
 use native.Mathlib.Omega.{arith}
 use lib.ListN.{length}
 use Rattle.table.proofs.Making.{size-pos}
-use Rattle.term.proofs.Runs.{begins, ends}
+use Rattle.bracket.proofs.Runs.{begins, ends}
 use Rattle.term.proofs.Laying.{is-stem, is-fork, laid-used, laid-node, lay-leaf, lay-stem, lay-fork}
 use borrow.Fn.Kinds.{In}
 use borrow.Fn.PlainCycle.{Measures, is, falls, and}

@@ -1,5 +1,10 @@
 -- `term::translate` meets its contract: refused by the checks at entry, or what follows them. Assumes nothing.
-use Rattle.term.proofs.Outcomes.{refused-entry, enters, past-entry}
+use mathlib.Core.Path.{sym, ap, _∙_}
+use mathlib.Core.Bool.{true}
+use Rattle.table.proofs.Entry.{entered, check-refuses}
+use Rattle.checks.specs.Code.{refusalOf}
+use Rattle.translation.specs.Translate.{translate}
+use Rattle.term.proofs.Outcomes.{past-entry}
 use borrow.Author.Needs.{needs}
 use Rattle.term.proofs.translate.Statement.{statement}
 use Rattle.term.proofs.translate.Tie as tie
@@ -17,7 +22,9 @@ translate-rule-requires : tie.Need-translate-rule-requires
 translate-rule-requires c κs =
     let c₁ = c .before .before .before .before in
     let c₂ = c₁ .before .before .before .before .before .before in
-    let a = c₂ .args in enters (a .table .now) (a .used) (a .stack .now) (a .bytes .now) (c₁ .check .result) (c₁ .check .ensures) (c .before .before .enum-told .given .1)
+    let a = c₂ .args in
+    let f = entered true (a .table .now) (a .used) (a .stack .now) (sym (c₁ .check .ensures) ∙ ap refusalOf (c .before .before .enum-told .given .1)) in
+    (f .table, f .stack)
 
 same-length : tie.Need-same-length
 same-length c = search needs
@@ -26,11 +33,9 @@ same-length-2 : tie.Need-same-length-2
 same-length-2 c = search needs
 
 returns : tie.Need-returns
+unfolding translate
 returns c =
-    let c₁ = c .before .before .before in
-    let c₂ = c₁ .before .before .before .before .before .before in
-    let a = c₂ .args in
-    refused-entry (a .table .now) (a .used) (a .stack .now) (a .bytes .now) (c₁ .check .result) (c₁ .check .ensures) (c .before .entry .given .0 .0) (c .before .entry .given .1)
+    check-refuses _ _ (sym (ap refusalOf (c .before .entry .given .1)) ∙ c .before .before .before .check .ensures)
 
 same-length-3 : tie.Need-same-length-3
 same-length-3 c = search needs
@@ -42,9 +47,7 @@ returns-2 : tie.Need-returns-2
 returns-2 c =
     let c₁ = c .before .before .before .before in
     let c₂ = c₁ .before .before .before in
-    let c₃ = c₂ .before .before .before .before .before .before .before .before in
-    let a = c₃ .args in
-    past-entry (a .table .now) (a .used) (a .stack .now) (a .bytes .now) (c₂ .before .before .check .result) (c₂ .before .before .check .ensures) (c₂ .enum-told .given .1) (c₁ .translate-rule .ensures)
+    past-entry _ _ _ _ (sym (ap refusalOf (c₂ .enum-told .given .1)) ∙ c₂ .before .before .check .ensures) (c₁ .translate-rule .ensures)
 
 pub translate-spec : {M : Type 1} → statement M
 translate-spec =

@@ -1,0 +1,39 @@
+-- What is claimed of Label: what it lacked where it is refused, what it gives where it is not, and what the labelled tree does. Assumes nothing: these are definitions.
+use Prim.Native.Nat.{ℕ, _+_, _-_, _<_}
+use mathlib.Core.Path.{_≡_}
+use mathlib.Core.Bool.{true, false}
+use mathlib.Core.List.{List, []}
+use mathlib.Core.Option.{none}
+use Rattle.calculus.specs.Tree.{Tree}
+use Rattle.calculus.specs.Rules.{Apply}
+use Rattle.table.specs.Nodes.{capacity, sound, treeAt}
+use Rattle.table.specs.Outcome.{fits, atEntry}
+use Rattle.table.specs.declared.Refusal.{Refusal}
+use Rattle.table.specs.declared.Refusal.the-variants.{Limits, Broken, Node, Nodes}
+use Rattle.table.proofs.Making.{Places}
+use Rattle.label.specs.Label.{labelled, label}
+
+-- The refusal of Label, and the table as it leaves it: "1, 2, then 3 for either number. 8: fewer than seven free nodes." (Operations, Label). 8 is met
+-- before a node is made, so every refusal leaves every word as found.
+pub data LabelLacks (w : List ℕ) (u f t : ℕ) : Refusal → List ℕ → Type 0 where
+  too-long : fits w u [] ≡ false → LabelLacks w u f t Limits w
+  is-broken : fits w u [] ≡ true → sound w u ≡ false → LabelLacks w u f t Broken w
+  not-in-use : atEntry true w u [] ≡ none → (f < u → t < u → ⊥) → LabelLacks w u f t Node w
+  no-nodes : atEntry true w u [] ≡ none → f < u → t < u → capacity w - u < 7 → LabelLacks w u f t Nodes w
+
+-- What a Label that gave node v says: both nodes were in use, the node has the labelled tree, and old nodes keep their trees.
+pub record Labels (w : List ℕ) (u f t v u′ : ℕ) : Type 0 where
+  pub entered : atEntry true w u [] ≡ none
+  pub rule-in : f < u
+  pub label-in : t < u
+  pub places : Places (record { words = w; used = u }) (record { table = record { words = label w u f t .table; used = u′ }; node = v }) (labelled (treeAt w f) (treeAt w t))
+  pub used-is : u′ ≡ u + 7
+
+-- What follows from a labelled tree that gave r on N in k steps: the rule gave r, and the label gave some tree.
+pub record Both (f t N r : Tree) (k : ℕ) : Type 0 where
+  pub label : Tree
+  pub a : ℕ
+  pub b : ℕ
+  pub rule-gives : Apply f N r a
+  pub label-gives : Apply t N label b
+  pub steps : k ≡ a + b + 5

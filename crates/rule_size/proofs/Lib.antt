@@ -1,0 +1,3 @@
+-- The laws of a rule's size; other crates cite those of Sizes.
+pub mod Weights
+pub mod Sizes

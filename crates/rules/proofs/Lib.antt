@@ -1,0 +1,2 @@
+-- The laws that the proofs of a use's functions cite.
+pub mod Steps

@@ -1,0 +1,79 @@
+// One use of the five rules on a table. The definitions and the laws that callers cite are in the crate `applying`; the state and the frames are
+// those of the crate `frames`.
+use applying::Frame;
+use applying::Rule;
+use frames::End;
+use frames::Machine;
+use frames::Turned;
+ghost use mathlib.Core.Path.{_≡_};
+ghost use Prim.Native.Nat.{_+_, _-_, _*_, _≤_, _<_};
+ghost use lib.ListN.{length};
+ghost use Rattle.table.specs.Nodes.{first};
+ghost use Rattle.table.specs.Outcome.{frames};
+ghost use Rattle.applying.specs.Machine.{forkRule, rule, grow, turn};
+ghost use Rattle.applying.specs.States.{Good};
+ghost use Rattle.frames.specs.Code.{stateOf, turnOf};
+
+// The rule for a fork with the branches x and y.
+fn fork_rule(table: &[u32], x: usize, y: usize) -> Rule
+    requires { ⌜ x * 2 + 1 < length (now table) ⌝ }
+    ensures { λ r. ⌜ r ≡ forkRule (now (table .entry)) x y ⌝ }
+{
+    let a = nodes::word(table, x * 2);
+    if a == 0 {
+        return Rule::Drop(y);
+    }
+    let b = nodes::word(table, x * 2 + 1);
+    if b == 0 {
+        return Rule::Spread(a - 1, y);
+    }
+    Rule::Triage(a - 1, b - 1)
+}
+
+// The rule that applying a node takes.
+fn wanted(table: &[u32], function: usize) -> Rule
+    requires { ⌜ (function * 2 + 1 < length (now table)) × ((first (now table) function - 1) * 2 + 1 < length (now table)) ⌝ }
+    ensures { λ r. ⌜ r ≡ rule (now (table .entry)) function ⌝ }
+{
+    let a = nodes::word(table, function * 2);
+    if a == 0 {
+        return Rule::Leaf;
+    }
+    let b = nodes::word(table, function * 2 + 1);
+    if b == 0 {
+        return Rule::Stem(a - 1);
+    }
+    fork_rule(table, a - 1, b - 1)
+}
+
+// The outcome is a new node with the words a and b, if it has a place.
+fn grow(table: &mut [u32], stack: &mut [u32], state: Machine, a: usize, b: usize) -> Turned
+    requires { ⌜ (length (now table) ≤ 131072) × (state .held * 3 ≤ length (now stack)) × (state .steps < 1000000) × (a < 4294967296) × (b < 4294967296) ⌝ }
+    ensures { λ r. ⌜ turnOf r (now (table .exit)) (now (stack .exit)) ≡ grow (stateOf state (now (table .entry)) (now (stack .entry))) a b ⌝ }
+{
+    let used = state.used;
+    if table.len() / 2 <= used {
+        return Turned {
+            state: state,
+            end: End::Nodes,
+        };
+    }
+    let made = nodes::new_node(table, used, a, b);
+    frames::resume(stack, made.used, state.held, state.steps + 1, made.node)
+}
+
+// One use of a rule.
+pub fn turn(table: &mut [u32], stack: &mut [u32], state: Machine) -> Turned
+    requires { ⌜ Good (frames (now stack)) (stateOf state (now table) (now stack)) × (state .steps < 1000000) ⌝ }
+    ensures { λ r. ⌜ turnOf r (now (table .exit)) (now (stack .exit)) ≡ turn (frames (now (stack .entry))) (stateOf state (now (table .entry)) (now (stack .entry))) ⌝ }
+{
+    let n = state.argument;
+    let rule = wanted(table, state.function);
+    match rule {
+        Rule::Leaf => grow(table, stack, state, n + 1, 0),
+        Rule::Stem(p) => grow(table, stack, state, p + 1, n + 1),
+        Rule::Drop(y) => frames::resume(stack, state.used, state.held, state.steps + 1, y),
+        Rule::Spread(p, y) => frames::hold(stack, state, Frame::SpreadFirst(p, n), y, n),
+        Rule::Triage(p, q) => frames::hold(stack, state, Frame::TriageFirst(q), n, p),
+    }
+}

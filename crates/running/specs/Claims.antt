@@ -1,0 +1,226 @@
+-- What is claimed of Run: where it is refused, what it lacked and which words it cleared; where it writes a text, which, in how many steps and with how
+-- many nodes (Operations, Run). Assumes nothing: these are definitions.
+use Prim.Native.Nat.{ℕ, _+_, _-_, _*_, _≤_, _<_}
+use mathlib.Core.Path.{_≡_}
+use mathlib.Core.List.{List, [], _∷_, _++_, map}
+use mathlib.Core.Logic.{_⊎_}
+use mathlib.Core.Option.{none, some}
+use lib.ListN.{length, take, drop, getD}
+use Rattle.calculus.specs.Tree.{Tree, size}
+use Rattle.calculus.specs.Rules.{ApplyAll, newNodesAll}
+use Rattle.calculus.specs.Term.{Term, parameters}
+use Rattle.calculus.specs.Bytes.{rule}
+use Rattle.calculus.specs.Abstraction.{ruleTree}
+use Rattle.calculus.specs.Runs.{Direct, difference}
+use Rattle.table.specs.Nodes.{Table, Placed, capacity, Sound, treeAt, lay, cleared}
+use Rattle.table.specs.Outcome.{Outcome, wholeOut, frames, zeros}
+use Rattle.table.specs.declared.Refusal.{Refusal}
+use Rattle.table.specs.declared.Refusal.the-variants.{Limits, Rule, Steps, Nodes, Frames, Out}
+use Rattle.table.specs.declared.Refusal.the-variants as refusal
+use Rattle.ternary.specs.Text.{text, treeOf, mostPending}
+use Rattle.ternary.specs.Read.{readable}
+use Rattle.ternary.specs.Write.{lacks}
+use Rattle.ternary.specs.Held.{Spent}
+use Rattle.applying.specs.Machine.{Turn, more, done, stop, uses, made}
+use Rattle.applying.specs.Apply.{begin}
+use Rattle.applying.specs.Lacks.{Halts}
+use Rattle.fields.specs.Packet.{Packet, packet}
+use Rattle.running.specs.Run.{run, ranNumbers}
+use Rattle.running.specs.declared.Ran.{Ran}
+use Rattle.running.specs.declared.Ran.the-variants.{Text, Refused}
+
+-- "1: lengths only.": what holds where it is not met
+pub record Fit (w s o : List ℕ) : Type 0 where
+  pub table : length w ≤ 131072
+  pub stack : length s ≤ 65536
+  pub out : length o ≤ 65535
+
+-- "4: its arguments' texts, first to last.": the first of the texts that Read does not take
+pub data Unreadable : List (List ℕ) → Type 0 where
+  here : {l : List ℕ} {ls : List (List ℕ)} → readable l ≡ none → Unreadable (l ∷ ls)
+  there : {l : List ℕ} {ls : List (List ℕ)} {x : Tree} → readable l ≡ some x → Unreadable ls → Unreadable (l ∷ ls)
+
+-- What holds where none of the four checks refuses: the lengths fit, the bytes l are the packet p, its rule is the term t, and each of its arguments'
+-- texts is one that Read takes, of the trees args in order.
+pub record Checked (w s o l : List ℕ) (p : Packet) (t : Term) (args : List Tree) : Type 0 where
+  pub fit : Fit w s o
+  pub is-packet : packet l ≡ some p
+  pub is-rule : rule (p .rule) ≡ some t
+  pub are-texts : map readable (p .arguments) ≡ map some args
+
+-- the digits of all texts
+unfoldable pub total : List (List ℕ) → ℕ
+total [] = 0
+total (l ∷ ls) = length l + total ls
+
+-- The nodes made since Run's entry where the rule t is translated, the arguments are read, and the applications d are completed: those of the rule's
+-- tree, one a digit of the arguments' texts, and the "one new node" (leaf and stem) of each such use in d.
+abbrev pub nodesBy : Packet → (t : Term) {args : List Tree} {r : Tree} {k : ℕ} → ApplyAll (ruleTree t) args r k → ℕ
+nodesBy p t d = size (ruleTree t) + total (p .arguments) + newNodesAll d
+
+-- Where Apply begins, the rule's tree and then the arguments' are laid: "Nodes lie as Read would lay its text." The table, and the arguments' nodes.
+abbrev pub ruleLaid : List ℕ → Term → Placed
+ruleLaid w t = lay (record { words = w; used = 0 }) (ruleTree t)
+
+unfoldable pub laidTable : Table → List Tree → Table
+laidTable z [] = z
+laidTable z (x ∷ xs) = laidTable (lay z x .table) xs
+
+unfoldable pub laidNodes : Table → List Tree → List ℕ
+laidNodes z [] = []
+laidNodes z (x ∷ xs) = lay z x .node ∷ laidNodes (lay z x .table) xs
+
+-- "Apply in order under one step limit": how many nodes are made where node v of the table z is applied to the first of the nodes ns, the outcome to the
+-- second, and so on, until that ends or a use lacks something. `all` frames are lent, and `limit` steps are left.
+unfoldable pub madeOnwards : (Placed → ℕ → ℕ) → Turn → ℕ
+madeOnwards next (more z) = 0
+madeOnwards next (done p j) = next p j
+madeOnwards next (stop e t) = 0
+
+unfoldable pub madeAll : ℕ → ℕ → Table → ℕ → List ℕ → ℕ
+madeAll all limit z v [] = 0
+madeAll all limit z v (n ∷ ns) =
+    made all limit (begin (z .words) (z .used) v n)
+    + madeOnwards (λ p j. madeAll all (limit - j) (p .table) (p .node) ns) (uses all limit (begin (z .words) (z .used) v n))
+
+-- the nodes made since Run's entry where Apply or Write stops: the rule's, one a digit of the arguments' texts, and those that the uses made
+abbrev pub nodesMade : List ℕ → List ℕ → Packet → Term → List Tree → ℕ
+nodesMade w s p t args =
+    size (ruleTree t) + total (p .arguments)
+    + madeAll (frames s) (p .limit) (laidTable (ruleLaid w t .table) args) (ruleLaid w t .node) (laidNodes (ruleLaid w t .table) args)
+
+-- What Translate had where it succeeds: "8: tree larger than the free nodes. 9: fewer than two frames for each node of the tree."
+pub record TranslateHad (w s : List ℕ) (t : Term) : Type 0 where
+  pub nodes-enough : size (ruleTree t) ≤ capacity w
+  pub frames-enough : 2 * size (ruleTree t) ≤ frames s
+
+-- What the Reads of the texts had where all succeed and u nodes are in use before: "8: more digits than free nodes. 9: fewer frames than the most trees
+-- pending".
+pub data ReadsHad (w s : List ℕ) : ℕ → List (List ℕ) → Type 0 where
+  all-read : {u : ℕ} → ReadsHad w s u []
+  and-read : {u : ℕ} {l : List ℕ} {ls : List (List ℕ)} → length l ≤ capacity w - u → mostPending l ≤ frames s → ReadsHad w s (u + length l) ls → ReadsHad w s u (l ∷ ls)
+
+-- What the Read of one of the texts lacks, where u nodes are in use before the first of them and m before that one: "8: more digits than free
+-- nodes. 9: fewer frames than the most trees pending". Each text before it has a node a digit.
+pub data ReadStops (w s : List ℕ) : ℕ → List (List ℕ) → Refusal → ℕ → Type 0 where
+  no-nodes : {u : ℕ} {l : List ℕ} {ls : List (List ℕ)} → capacity w - u < length l → ReadStops w s u (l ∷ ls) Nodes u
+  no-frames : {u : ℕ} {l : List ℕ} {ls : List (List ℕ)} → length l ≤ capacity w - u → frames s < mostPending l → ReadStops w s u (l ∷ ls) Frames u
+  later : {u : ℕ} {l : List ℕ} {ls : List (List ℕ)} {e : Refusal} {m : ℕ} → length l ≤ capacity w - u → mostPending l ≤ frames s
+      → ReadStops w s (u + length l) ls e m → ReadStops w s u (l ∷ ls) e m
+
+-- The application that is refused with e: the arguments before it were applied to in k steps; then the node `function` was applied to the node
+-- `argument` of the table that Run's table had become, and a use lacked what e names. For 7 this means that the whole run does not end within the limit.
+pub record ApplyStops (w s : List ℕ) (p : Packet) (t : Term) (args : List Tree) (e : Refusal) : Type 0 where
+  pub before : List Tree
+  pub after : List Tree
+  pub table : Table
+  pub function : ℕ
+  pub argument : ℕ
+  pub k : ℕ
+  pub fine : Sound table
+  pub same-length : length (table .words) ≡ length w
+  pub beyond : (i : ℕ) → table .used * 2 ≤ i → getD (table .words) i 0 ≡ getD w i 0
+  pub function-in : function < table .used
+  pub argument-in : argument < table .used
+  pub arguments-are : args ≡ before ++ (treeAt (table .words) argument ∷ after)
+  pub so-far : ApplyAll (ruleTree t) before (treeAt (table .words) function) k
+  pub within-limit : k ≤ p .limit
+  pub used-is : table .used ≡ nodesBy p t so-far
+  pub halts : Halts (frames s) (p .limit - k) (begin (table .words) (table .used) function argument) e
+  pub no-tree : e ≡ Steps → {r : Tree} {j : ℕ} → ApplyAll (ruleTree t) args r j → p .limit < j
+
+-- the nodes that the refused application made until it stopped
+abbrev pub madeUntil : {w s : List ℕ} {p : Packet} {t : Term} {args : List Tree} {e : Refusal} → ApplyStops w s p t args e → ℕ
+madeUntil {s = s} {p = p} x = made (frames s) (p .limit - x .k) (begin (x .table .words) (x .table .used) (x .function) (x .argument))
+
+-- What the first stage that cannot go on lacks, and the m nodes that were made since Run's entry: "Then Translate, Read of each argument, Apply in
+-- order under one step limit, Write, each with its 7 to 10." The stages before it had what they needed.
+pub data Stops (w s o : List ℕ) (p : Packet) (t : Term) (args : List Tree) : Refusal → ℕ → Type 0 where
+  translate-nodes : capacity w < size (ruleTree t) → Stops w s o p t args Nodes 0
+  translate-frames : size (ruleTree t) ≤ capacity w → frames s < 2 * size (ruleTree t) → Stops w s o p t args Frames 0
+  in-read : {e : Refusal} {m : ℕ} → TranslateHad w s t → ReadStops w s (size (ruleTree t)) (p .arguments) e m → Stops w s o p t args e m
+  in-apply : {e : Refusal} {m : ℕ} → TranslateHad w s t → ReadsHad w s (size (ruleTree t)) (p .arguments) → (x : ApplyStops w s p t args e)
+      → m ≡ nodesMade w s p t args → m ≡ nodesBy p t (x .so-far) + madeUntil x → Stops w s o p t args e m
+  in-write : {e : Refusal} {m : ℕ} {r : Tree} {k : ℕ} → TranslateHad w s t → ReadsHad w s (size (ruleTree t)) (p .arguments)
+      → (d : ApplyAll (ruleTree t) args r k) → k ≤ p .limit → Spent (frames s) 0 r (length o) (lacks e)
+      → m ≡ nodesMade w s p t args → m ≡ nodesBy p t d → Stops w s o p t args e m
+
+-- What was not so where Run refuses with e, and the whole outcome x: "1: lengths only. 6: packet broken. 5: its rule. 4: its arguments' texts, first to
+-- last." These "leave lent memory as found". Then a stage stops with 7 to 10: the words of the m nodes made since Run's entry are 0 and all others as
+-- found, the stack is 0, and "the out bytes stay as at entry".
+pub data Refuses (w s o l : List ℕ) (x : Outcome Ran) : Refusal → Type 0 where
+  too-long : (Fit w s o → ⊥) → x ≡ wholeOut (Refused Limits) w s o → Refuses w s o l x Limits
+  no-packet : Fit w s o → packet l ≡ none → x ≡ wholeOut (Refused refusal.Packet) w s o → Refuses w s o l x refusal.Packet
+  no-rule : Fit w s o → {p : Packet} → packet l ≡ some p → rule (p .rule) ≡ none → x ≡ wholeOut (Refused Rule) w s o → Refuses w s o l x Rule
+  no-text : Fit w s o → {p : Packet} → packet l ≡ some p → {t : Term} → rule (p .rule) ≡ some t → Unreadable (p .arguments)
+      → x ≡ wholeOut (Refused refusal.Text) w s o → Refuses w s o l x refusal.Text
+  stops : {p : Packet} {t : Term} {args : List Tree} → Checked w s o l p t args → {e : Refusal} {m : ℕ} → Stops w s o p t args e m → m ≤ capacity w
+      → x ≡ wholeOut (Refused e) (cleared w 0 (m * 2)) (zeros s) o → Refuses w s o l x e
+
+-- What a Run that is refused with 7 to 10 leaves of the table w and the stack s. Run takes the table as empty, so the nodes made are 0 to `made` − 1, as
+-- many as the stage that stopped says.
+pub record Undid (w s o l : List ℕ) (e : Refusal) (x : Outcome Ran) : Type 0 where
+  pub sent : Packet
+  pub term : Term
+  pub args : List Tree
+  pub checked : Checked w s o l sent term args
+  pub made : ℕ
+  pub stopped : Stops w s o sent term args e made
+  pub within : made ≤ capacity w
+  pub table : x .table ≡ cleared w 0 (made * 2)
+  pub stack : x .stack ≡ zeros s
+
+-- the conditions of 5 and 4, where those before are passed
+abbrev pub BadRule : List ℕ → List ℕ → List ℕ → List ℕ → Type 0
+BadRule w s o l = Fit w s o × (p : Packet) × (packet l ≡ some p) × (rule (p .rule) ≡ none)
+
+abbrev pub BadText : List ℕ → List ℕ → List ℕ → List ℕ → Type 0
+BadText w s o l = Fit w s o × (p : Packet) × (packet l ≡ some p) × (t : Term) × (rule (p .rule) ≡ some t) × Unreadable (p .arguments)
+
+-- What is claimed of a Run that writes n digits after k steps and leaves u nodes in use.
+pub record Completes (w s o l : List ℕ) (k u n : ℕ) : Type 0 where
+  pub numbers : ranNumbers (run w s o l .answer) ≡ record { refusal = 0; node = 0; used = u; steps = k; digits = n }
+  -- the packet, its rule's term, its arguments' trees in order
+  pub sent : Packet
+  pub is-packet : packet l ≡ some sent
+  pub term : Term
+  pub is-rule : rule (sent .rule) ≡ some term
+  pub args : List Tree
+  pub arguments-are : map treeOf (sent .arguments) ≡ map some args
+  -- the tree whose text is written: "Bytes past the text stay."
+  pub tree : Tree
+  pub digits-are : n ≡ length (text tree)
+  pub written : take n (run w s o l .out) ≡ text tree
+  pub out-is : run w s o l .out ≡ text tree ++ drop n o
+  -- "applies the translated rule's tree to the first argument by the five rules, that outcome to the second, and so on. Its steps are the uses"; "under
+  -- one step limit"
+  pub translated : ApplyAll (ruleTree term) args tree k
+  pub within-limit : k ≤ sent .limit
+  -- "The planner's run then has a tree, and it is this one; for n = 1 the steps [..] are the planner's plus 2L + 5X − 1."
+  pub direct : 1 ≤ length args → length args ≤ parameters term → (j : ℕ) × Direct term args tree j
+  pub steps : length args ≡ 1 → (j : ℕ) → Direct term args tree j → k ≡ j + difference term
+  -- the nodes in use: the rule's, one a digit of the arguments' texts, and "one new node" for each use of leaf and stem
+  pub used-is : u ≡ nodesBy sent term translated
+  -- "Success also sets the stack to 0, and no other table word than those of new nodes changes."
+  pub stack : run w s o l .stack ≡ zeros s
+  pub same-length : length (run w s o l .table) ≡ length w
+  pub beyond : (i : ℕ) → 2 * u ≤ i → getD (run w s o l .table) i 0 ≡ getD w i 0
+  pub fine : Sound (record { words = run w s o l .table; used = u })
+
+-- What a Run of the rule t without arguments writes and counts: the translated rule's text, no step, and that tree's nodes.
+pub record Bare (w s o l : List ℕ) (t : Term) (k u n : ℕ) : Type 0 where
+  pub steps-none : k ≡ 0
+  pub used-is : u ≡ size (ruleTree t)
+  pub digits-are : n ≡ length (text (ruleTree t))
+  pub out-is : run w s o l .out ≡ text (ruleTree t) ++ drop n o
+
+-- "8 [..] 9 [..] 10": nodes, frames or out bytes are too few
+pub data TooFew : Refusal → Type 0 where
+  few-nodes : TooFew Nodes
+  few-frames : TooFew Frames
+  few-bytes : TooFew Out
+
+-- Run's answer is the text of r after k steps, or 8, 9 or 10
+abbrev pub Writes : List ℕ → List ℕ → List ℕ → List ℕ → Tree → ℕ → Type 0
+Writes w s o l r k =
+    ((u : ℕ) × (run w s o l .answer ≡ Text k u (length (text r)))) ⊎ ((e : Refusal) × TooFew e × (run w s o l .answer ≡ Refused e))

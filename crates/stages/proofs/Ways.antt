@@ -1,0 +1,278 @@
+-- Laws of Run's stages, one for each way that their code goes. Each stage calls an inner operation on a sound table, so that its outcome is the
+-- operation's. Assumes nothing.
+use Prim.Native.Nat.{ℕ, zero, suc, _+_, _-_, _*_, _≤_, _<_}
+use mathlib.Core.Path.{_≡_, refl, sym, ap, _∙_}
+use mathlib.Core.Bool.{Bool, true, false, cond}
+use mathlib.Core.List.{List, [], _∷_, _++_, append-assoc, append-nil}
+use mathlib.Core.Option.{Option, none, some}
+use native.Mathlib.Omega.{arith}
+use native.Mathlib.Numerals.{add-one}
+use lib.ListN.{length, getD, set, take, drop, length-take, length-set, drop-of-length-le}
+use lib.Seq.{drop-cons, getD-take, take-suc-set, getD-set-same, getD-set-other}
+use lib.Dec.{leb, ltb}
+use borrow.Author.Tests.{le-leb, ltb-true, ltb-false}
+use Rattle.calculus.specs.Bytes.{rule}
+use Rattle.table.specs.Nodes.{Sound, sound, cleared, treeAt}
+use Rattle.table.specs.Outcome.{Outcome, Entered, whole, wholeOut}
+use Rattle.table.specs.declared.Refusal.{Refusal}
+use Rattle.table.specs.declared.Made.{Made}
+use Rattle.table.specs.declared.Made.the-variants as made
+use Rattle.table.proofs.Words.{zero-one, cleared-all}
+use Rattle.ternary.specs.Read.{read, readable, readTree}
+use Rattle.ternary.specs.Write.{writeTree, write}
+use Rattle.ternary.specs.declared.Written.{Written}
+use Rattle.ternary.specs.declared.Written.the-variants as written
+use Rattle.ternary.proofs.Reading.{entered-read, read-gives}
+use Rattle.ternary.proofs.Writes.{entered-write}
+use Rattle.translation.specs.Translate.{translateRule, translate}
+use Rattle.translation.proofs.Translates.{entered-translate, translate-gives}
+use Rattle.applying.specs.Apply.{applyNodes, apply}
+use Rattle.applying.specs.declared.Applied.{Applied}
+use Rattle.applying.specs.declared.Applied.the-variants as applied
+use Rattle.applying.proofs.Cases.{entered-apply}
+use Rattle.applying.proofs.Follows.{apply-follows}
+use Rattle.fields.specs.Packet.{Packet}
+use Rattle.packet.specs.Code.{endAt, valueAt, Stand, valuesAt}
+use Rattle.packet.proofs.Parts.{next-field}
+use Rattle.running.specs.Run.{stopped, afterMade, afterApplied, afterWritten, writes, applies, reads, stages}
+use Rattle.running.specs.declared.Ran.{Ran}
+use Rattle.running.specs.declared.Ran.the-variants.{Text, Refused}
+use Rattle.stages.specs.Ready.{Ready, NodesIn}
+
+-- ---- a refusal at a stage, and an answer that is none
+
+pub is-stopped : (w : List ℕ) (u : ℕ) (s o : List ℕ) {e : Refusal} {z y : List ℕ} → z ≡ cleared w 0 (u * 2) → y ≡ cleared s 0 (length s)
+    → wholeOut (Refused e) z y o ≡ stopped e w u s o
+unfolding stopped
+is-stopped w u s o p q = rw (p, q, cleared-all s)
+
+pub made-not : {a : Made} {e : Refusal} → a ≡ made.Refused e → (n u : ℕ) → a ≡ made.Node n u → ⊥
+made-not p n u q = zero-one (cc)
+
+pub applied-not : {a : Applied} {e : Refusal} → a ≡ applied.Refused e → (n u k : ℕ) → a ≡ applied.Node n u k → ⊥
+applied-not p n u k q = zero-one (cc)
+
+pub written-not : {a : Written} {e : Refusal} → a ≡ written.Refused e → (n : ℕ) → a ≡ written.Digits n → ⊥
+written-not p n q = zero-one (cc)
+
+-- the words of the nodes in use are within the table
+pub in-table : {w : List ℕ} {u : ℕ} {s o : List ℕ} → Ready w u s o → u * 2 ≤ length w
+in-table r = omega (arith, r .fine .within)
+
+-- "with the table taken as empty": no node is in use, so none is broken
+pub empty-ready : {w s o : List ℕ} → length w ≤ 131072 → length s ≤ 65536 → length o ≤ 65535 → Ready w 0 s o
+unfolding sound
+empty-ready a b c = record { fine = record { short = a; within = omega arith; unbroken = refl }; stack = b; out = c }
+
+-- what the checks at entry ask holds
+entered-by : {within : Bool} {w : List ℕ} {u : ℕ} {s o : List ℕ} → Ready w u s o → within ≡ true → Entered within w u s
+entered-by r e = record { table = r .fine; stack = r .stack; limits-kept = e }
+
+-- ---- Write
+
+module _ {w : List ℕ} {u : ℕ} {s o : List ℕ} {v : ℕ} (k : ℕ) (r : Ready w u s o) (h : v < u) {a : Written} {y z : List ℕ}
+    (e : wholeOut a w y z ≡ writeTree w s o (treeAt w v)) where
+  is-write : wholeOut a w y z ≡ write w u s v o
+  is-write = e ∙ entered-write w u s v o (entered-by r (le-leb (length o) 65535 (r .out))) h
+
+  pub is-text : {n : ℕ} → a ≡ written.Digits n → wholeOut (Text k u n) w y z ≡ writes w u s o v k
+  unfolding writes afterWritten
+  is-text q = rw (← is-write, q)
+
+  pub stops-write : {x : Outcome Ran} {c : Refusal} → a ≡ written.Refused c → x ≡ stopped c w u y z → x ≡ writes w u s o v k
+  unfolding writes afterWritten
+  stops-write q g = rw (← is-write, q) g
+
+-- ---- Apply, of count argument nodes, i of them applied
+
+-- where the applications stand: the rest of them comes to what all of them do
+pub record Applying (nodes : List ℕ) (count limit : ℕ) (o w₀ : List ℕ) (u₀ : ℕ) (s₀ : List ℕ) (v₀ : ℕ) (w s : List ℕ) (v u k i : ℕ) : Type 0 where
+  pub ready : Ready w u s o
+  pub inside : i ≤ count
+  pub few : count ≤ length nodes
+  pub limited : limit ≤ 1000000
+  pub within-limit : k ≤ limit
+  pub function-in : v < u
+  pub nodes-in : NodesIn u nodes count
+  pub same-table : length w ≡ length w₀
+  pub same-stack : length s ≡ length s₀
+  pub rest : applies (drop i (take count nodes)) limit w u s o v k ≡ applies (take count nodes) limit w₀ u₀ s₀ o v₀ 0
+
+pub applies-begin : {nodes : List ℕ} {count limit : ℕ} {o w : List ℕ} {u : ℕ} {s : List ℕ} {v : ℕ} → Ready w u s o → v < u → limit ≤ 1000000 → count ≤ length nodes
+    → NodesIn u nodes count → Applying nodes count limit o w u s v w s v u 0 0
+applies-begin r h l f n =
+    record {
+      ready = r;
+      inside = omega arith;
+      few = f;
+      limited = l;
+      within-limit = omega arith;
+      function-in = h;
+      nodes-in = n;
+      same-table = refl;
+      same-stack = refl;
+      rest = refl;
+    }
+
+module _ {nodes : List ℕ} {count limit : ℕ} {o w₀ : List ℕ} {u₀ : ℕ} {s₀ : List ℕ} {v₀ : ℕ} {w s : List ℕ} {v u k i : ℕ}
+    (p : Applying nodes count limit o w₀ u₀ s₀ v₀ w s v u k i) where
+  pub applies-end : count ≤ i → {x : Outcome Ran} → x ≡ writes w u s o v k → x ≡ applies (take count nodes) limit w₀ u₀ s₀ o v₀ 0
+  unfolding applies
+  applies-end h q =
+      let e : writes w u s o v k ≡ applies (drop i (take count nodes)) limit w u s o v k =
+      rw (drop-of-length-le (take count nodes) {i = i} (simp length-take (omega (arith, p .few)))) in
+      q ∙ e ∙ p .rest
+
+  module _ (h : i < count) where
+    pub argument-in : getD nodes i 0 < u
+    argument-in = p .nodes-in i h
+
+    first : drop i (take count nodes) ≡ getD nodes i 0 ∷ drop (i + 1) (take count nodes)
+    first =
+        let n : i < length (take count nodes) = simp length-take (omega (arith, p .few)) in
+        rw (drop-cons (take count nodes) i 0 n, getD-take count nodes i 0 h, add-one i)
+
+    module _ {a : Applied} {z y : List ℕ} (e : whole a z y ≡ applyNodes w u s v (getD nodes i 0) (limit - k)) where
+      is-apply : whole a z y ≡ apply w u s v (getD nodes i 0) (limit - k)
+      is-apply = e ∙ entered-apply (limit - k) (entered-by (p .ready) (le-leb (limit - k) 1000000 (omega (arith, p .limited)))) (p .function-in) argument-in
+
+      pub applies-stop : {x : Outcome Ran} {c : Refusal} → a ≡ applied.Refused c → x ≡ stopped c z u y o → x ≡ applies (take count nodes) limit w₀ u₀ s₀ o v₀ 0
+      unfolding applies afterApplied
+      applies-stop {x} {c} q g =
+          let b : x ≡ applies (drop i (take count nodes)) limit w u s o v k = rw (first, ← is-apply, q) g in
+          b ∙ p .rest
+
+      -- the steps that were left were enough for those that were taken
+      pub applies-steps : {v′ u′ j : ℕ} → a ≡ applied.Node v′ u′ j → k + j ≤ limit
+      applies-steps {v′} {u′} {j} q =
+          omega (arith, apply-follows w u s v (getD nodes i 0) (limit - k) v′ u′ j (rw (← is-apply) q) .within-limit, p .within-limit)
+
+      pub applies-next : {v′ u′ j : ℕ} → a ≡ applied.Node v′ u′ j → length y ≡ length s → Applying nodes count limit o w₀ u₀ s₀ v₀ z y v′ u′ (k + j) (i + 1)
+      unfolding applies afterApplied
+      applies-next {v′} {u′} {j} q l =
+          let f = apply-follows w u s v (getD nodes i 0) (limit - k) v′ u′ j (rw (← is-apply) q) in
+          let t : apply w u s v (getD nodes i 0) (limit - k) .table ≡ z = rw (← is-apply) in
+          let m : length z ≡ length w = ap length (sym t) ∙ f .extends .kept .same-length in
+          let b : applies (drop (i + 1) (take count nodes)) limit z u′ y o v′ (k + j) ≡ applies (drop i (take count nodes)) limit w u s o v k = rw (first, ← is-apply, q) in
+          record {
+            ready = record { fine = rw t at (f .fine); stack = omega (arith, p .ready .stack); out = p .ready .out };
+            inside = omega arith;
+            few = p .few;
+            limited = p .limited;
+            within-limit = applies-steps q;
+            function-in = f .inside;
+            nodes-in = λ n c. omega (arith, p .nodes-in n c, f .extends .kept .up);
+            same-table = m ∙ p .same-table;
+            same-stack = l ∙ p .same-stack;
+            rest = b ∙ p .rest;
+          }
+
+-- ---- Read, of count arguments from a position of the packet l on, i of them read
+
+-- where the reading stands: the rest of it comes to what all of it does
+pub record Reading (l : List ℕ) (count : ℕ) (o : List ℕ) (next : List ℕ → List ℕ → ℕ → List ℕ → Outcome Ran) (v : ℕ) (w₀ : List ℕ) (u₀ : ℕ) (s₀ : List ℕ) (from : ℕ)
+    (w s nodes : List ℕ) (at u i : ℕ) : Type 0 where
+  pub ready : Ready w u s o
+  pub inside : i ≤ count
+  pub stand : Stand l at (count - i)
+  pub rule-in : v < u
+  pub eight : length nodes ≡ 8
+  pub few : count ≤ 8
+  pub nodes-in : NodesIn u nodes i
+  pub same-table : length w ≡ length w₀
+  pub same-stack : length s ≡ length s₀
+  pub rest : reads (valuesAt l at (count - i)) w u s o (λ ns. next (take i nodes ++ ns)) ≡ reads (valuesAt l from count) w₀ u₀ s₀ o next
+
+pub reads-begin : {l : List ℕ} {count : ℕ} {o : List ℕ} {next : List ℕ → List ℕ → ℕ → List ℕ → Outcome Ran} {v : ℕ} {w : List ℕ} {u : ℕ} {s : List ℕ} {from : ℕ} {nodes : List ℕ}
+    → Ready w u s o → v < u → count ≤ 8 → Stand l from count → length nodes ≡ 8 → Reading l count o next v w u s from w s nodes from u 0
+reads-begin {count = count} r h f st n =
+    let e : count - 0 ≡ count = omega arith in
+    record {
+      ready = r;
+      inside = omega arith;
+      stand = rw e st;
+      rule-in = h;
+      eight = n;
+      few = f;
+      nodes-in = λ i b. absurd (omega arith);
+      same-table = refl;
+      same-stack = refl;
+      rest = rw e;
+    }
+
+module _ {l : List ℕ} {count : ℕ} {o : List ℕ} {next : List ℕ → List ℕ → ℕ → List ℕ → Outcome Ran} {v : ℕ} {w₀ : List ℕ} {u₀ : ℕ} {s₀ : List ℕ} {from : ℕ}
+    {w s nodes : List ℕ} {at u i : ℕ} (p : Reading l count o next v w₀ u₀ s₀ from w s nodes at u i) where
+  pub reads-end : count ≤ i → {x : Outcome Ran} → x ≡ next (take count nodes) w u s → x ≡ reads (valuesAt l from count) w₀ u₀ s₀ o next
+  unfolding reads valuesAt
+  reads-end m q =
+      let a : count - i ≡ 0 = omega arith in
+      let b : i ≡ count = omega (arith, p .inside) in
+      let e : next (take count nodes) w u s ≡ reads (valuesAt l at (count - i)) w u s o (λ ns. next (take i nodes ++ ns)) = rw (a, append-nil, b) in
+      q ∙ e ∙ p .rest
+
+  pub reads-all : count ≤ i → NodesIn u nodes count
+  reads-all m n b = p .nodes-in n (omega arith)
+
+  module _ (h : i < count) {a : Made} {z y : List ℕ} (e : whole a z y ≡ readTree w u s (valueAt l at) (readable (valueAt l at))) where
+    is-read : whole a z y ≡ read w u s (valueAt l at)
+    is-read = e ∙ entered-read w u s (valueAt l at) (entered-by (p .ready) refl)
+
+    pub reads-stop : {x : Outcome Ran} {c : Refusal} → a ≡ made.Refused c → x ≡ stopped c z u y o → x ≡ reads (valuesAt l from count) w₀ u₀ s₀ o next
+    unfolding reads afterMade
+    reads-stop {x} {c} q g =
+        let b : x ≡ reads (valuesAt l at (count - i)) w u s o (λ ns. next (take i nodes ++ ns)) = rw (next-field l at count i h (p .stand) .values, ← is-read, q) g in
+        b ∙ p .rest
+
+    pub reads-next : {n u′ : ℕ} → a ≡ made.Node n u′ → length y ≡ length s → Reading l count o next v w₀ u₀ s₀ from z y (set nodes i n) (endAt l at) u′ (i + 1)
+    unfolding reads afterMade
+    reads-next {n} {u′} q k =
+        let g = read-gives w u s (valueAt l at) n u′ (rw (← is-read) q) in
+        let t : read w u s (valueAt l at) .table ≡ z = rw (← is-read) in
+        let up : u ≤ u′ = g .places .extends .kept .up in
+        let m : i < length nodes = omega (arith, p .eight, p .few) in
+        let c : take (i + 1) (set nodes i n) ≡ take i nodes ++ (n ∷ []) = rw (add-one i, take-suc-set nodes i n m) in
+        let b : reads (valuesAt l (endAt l at) (count - (i + 1))) z u′ y o (λ ns. next (take (i + 1) (set nodes i n) ++ ns))
+        ≡ reads (valuesAt l at (count - i)) w u s o (λ ns. next (take i nodes ++ ns)) =
+        rw (next-field l at count i h (p .stand) .values, ← is-read, q, c) (simp append-assoc) in
+        record {
+          ready = record { fine = rw t at (g .places .fine); stack = omega (arith, p .ready .stack); out = p .ready .out };
+          inside = omega arith;
+          stand = next-field l at count i h (p .stand) .stand;
+          rule-in = omega (arith, p .rule-in);
+          eight = rw length-set (p .eight);
+          few = p .few;
+          nodes-in = λ j d. go j d (ltb j i) refl up (g .places .inside) m;
+          same-table = ap length (sym t) ∙ g .places .extends .kept .same-length ∙ p .same-table;
+          same-stack = k ∙ p .same-stack;
+          rest = b ∙ p .rest;
+        }
+      where
+        go : (j : ℕ) → j < i + 1 → (x : Bool) → ltb j i ≡ x → u ≤ u′ → n < u′ → i < length nodes → getD (set nodes i n) j 0 < u′
+        go j d true f up k m =
+            let b : j < i = ltb-true j i f in
+            rw (getD-set-other nodes i j n 0 (λ q. omega arith)) (omega (arith, p .nodes-in j b))
+        go j d false f up k m =
+            let b : i ≤ j = ltb-false j i f in
+            let c : j ≡ i = omega arith in
+            rw (c, getD-set-same nodes i n 0 m) k
+
+-- ---- Translate, and the stages
+
+module _ {w s o : List ℕ} (r : Ready w 0 s o) (p : Packet) {a : Made} {z y : List ℕ} (e : whole a z y ≡ translateRule w 0 s (rule (p .rule))) where
+  is-translate : whole a z y ≡ translate w 0 s (p .rule)
+  is-translate = e ∙ entered-translate w 0 s (p .rule) (entered-by r refl)
+
+  pub stages-next : {n u′ : ℕ} → a ≡ made.Node n u′ → {x : Outcome Ran}
+      → x ≡ reads (p .arguments) z u′ y o (λ ns w″ u″ s″. applies ns (p .limit) w″ u″ s″ o n 0) → x ≡ stages w s o p
+  unfolding stages afterMade
+  stages-next q g = rw (← is-translate, q) g
+
+  pub stages-stop : {x : Outcome Ran} {c : Refusal} → a ≡ made.Refused c → x ≡ stopped c z 0 y o → x ≡ stages w s o p
+  unfolding stages afterMade
+  stages-stop q g = rw (← is-translate, q) g
+
+  pub stages-ready : {n u′ : ℕ} → a ≡ made.Node n u′ → length y ≡ length s → Ready z u′ y o × (n < u′)
+  stages-ready {n} {u′} q l =
+      let g = translate-gives w 0 s (p .rule) n u′ (rw (← is-translate) q) in
+      let t : translate w 0 s (p .rule) .table ≡ z = rw (← is-translate) in
+      (record { fine = rw t at (g .lays .places .fine); stack = omega (arith, r .stack); out = r .out }, g .lays .places .inside)

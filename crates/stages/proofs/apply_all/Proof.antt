@@ -1,0 +1,108 @@
+-- `stages::apply_all` meets its contract. The loop's invariant: the applications left come to what all of them do. Assumes nothing.
+use Prim.Native.Nat.{ℕ, _-_, _≤_}
+use lib.ListN.{length}
+use mathlib.Core.Path.{_≡_, refl, sym, ap, _∙_}
+use native.Mathlib.Omega.{arith}
+use borrow.Author.Needs.{needs}
+use Rattle.stages.proofs.Ways.{applied-not, in-table, Applying, applies-begin, argument-in, applies-end, applies-next, applies-stop, applies-steps}
+use Rattle.stages.proofs.apply_all.Statement.{statement}
+use Rattle.stages.proofs.apply_all.Tie as tie
+
+abbrev Inv-loop : tie.InvT-loop
+Inv-loop table₀ used stack₀ out nodes count limit node₀ in-use₀ steps₀ done₀ table stack node in-use steps done = Applying nodes count limit out table₀ used stack₀ node₀ table stack node in-use steps done
+
+abbrev μ-loop : tie.MeasureT-loop
+μ-loop table₀ used stack₀ out nodes count limit node₀ in-use₀ steps₀ done₀ table stack node in-use steps done = count - done
+
+loop-holds : tie.Need-loop-holds Inv-loop μ-loop
+loop-holds c = applies-begin (c .before .before .before .pre .0) (c .before .before .before .pre .1) (c .before .before .before .pre .2) (omega (arith, c .before .before .before .pre .3)) (c .before .before .before .pre .4)
+
+mul-argument : tie.Need-mul-argument Inv-loop μ-loop
+mul-argument c = omega (arith, c .before .before .before .before .before .pre .3)
+
+array-read-argument : tie.Need-array-read-argument Inv-loop μ-loop
+array-read-argument c = omega (arith, c .before .before .before .before .before .pre .3)
+
+sub-apply-nodes : tie.Need-sub-apply-nodes Inv-loop μ-loop
+sub-apply-nodes c = omega (arith, c .before .before .before .loop .inv .within-limit)
+
+apply-nodes-requires : tie.Need-apply-nodes-requires Inv-loop μ-loop
+apply-nodes-requires c κs =
+    let i = c .before .before .before .loop .inv in
+    (i .ready .fine, i .function-in, argument-in i (c .before .before .loop-test .taken), omega (arith, i .limited))
+
+enum-known-applied : tie.Need-enum-known-applied Inv-loop μ-loop
+enum-known-applied c = search needs
+
+enum-told : tie.Need-enum-told Inv-loop μ-loop
+enum-told c = search needs
+
+applied-refusal-requires : tie.Need-applied-refusal-requires Inv-loop μ-loop
+applied-refusal-requires c κs = applied-not (c .before .before .enum-told .given .1)
+
+stop-requires : tie.Need-stop-requires Inv-loop μ-loop
+stop-requires c κs = omega (arith, c .before .before .before .before .before .before .before .before .before .apply-nodes .kept .0, in-table (c .before .before .before .before .before .before .before .before .before .before .before .before .before .loop .inv .ready))
+
+same-length : tie.Need-same-length Inv-loop μ-loop
+same-length c = c .before .before .before .before .stop .kept .0 ∙ c .before .before .before .before .before .before .before .before .before .before .before .before .before .before .apply-nodes .kept .0 ∙ c .before .before .before .before .before .before .before .before .before .before .before .before .before .before .before .before .before .before .loop .inv .same-table
+
+same-length-2 : tie.Need-same-length-2 Inv-loop μ-loop
+same-length-2 c = c .before .before .before .before .stop .kept .1 .1 .0 ∙ c .before .before .before .before .before .before .before .before .before .before .before .before .before .before .apply-nodes .kept .1 .1 .0 ∙ c .before .before .before .before .before .before .before .before .before .before .before .before .before .before .before .before .before .before .loop .inv .same-stack
+
+returns : tie.Need-returns Inv-loop μ-loop
+returns c = applies-stop (c .before .before .before .before .before .before .before .before .before .before .before .before .before .before .before .before .before .before .loop .inv) (c .before .before .before .before .before .before .before .before .before .before .before .before .before .before .before .before .before .loop-test .taken) (c .before .before .before .before .before .before .before .before .before .before .before .before .before .before .apply-nodes .ensures) (c .before .before .before .before .before .applied-refusal .ensures) (c .before .before .before .before .stop .ensures _)
+
+add-steps : tie.Need-add-steps Inv-loop μ-loop
+add-steps c = omega (arith, applies-steps (c .before .before .before .before .before .before .before .before .before .before .before .loop .inv) (c .before .before .before .before .before .before .before .before .before .before .loop-test .taken) (c .before .before .before .before .before .before .before .apply-nodes .ensures) (c .before .applied .given .1), c .before .before .before .before .before .before .before .before .before .before .before .loop .inv .limited)
+
+add-done : tie.Need-add-done Inv-loop μ-loop
+add-done c = omega (arith, c .before .before .before .before .before .before .before .before .before .before .before .before .before .before .before .pre .3)
+
+loop-less : tie.Need-loop-less Inv-loop μ-loop
+loop-less c = omega arith
+
+loop-again : tie.Need-loop-again Inv-loop μ-loop
+loop-again c = applies-next (c .before .before .before .before .before .before .before .before .before .before .before .loop .inv) (c .before .before .before .before .before .before .before .before .before .before .loop-test .taken) (c .before .before .before .before .before .before .before .apply-nodes .ensures) (c .before .applied .given .1) (c .before .before .before .before .before .before .before .apply-nodes .kept .1 .1 .0)
+
+write-outcome-requires : tie.Need-write-outcome-requires Inv-loop μ-loop
+write-outcome-requires c κs = (c .before .before .before .before .loop .inv .ready, c .before .before .before .before .loop .inv .function-in)
+
+same-length-3 : tie.Need-same-length-3 Inv-loop μ-loop
+same-length-3 c = c .before .before .before .before .before .before .write-outcome .kept .0 ∙ c .before .before .before .before .before .before .before .before .before .before .before .loop .inv .same-table
+
+same-length-4 : tie.Need-same-length-4 Inv-loop μ-loop
+same-length-4 c = c .before .before .before .before .before .before .write-outcome .kept .1 .1 .0 ∙ c .before .before .before .before .before .before .before .before .before .before .before .loop .inv .same-stack
+
+same-length-5 : tie.Need-same-length-5 Inv-loop μ-loop
+same-length-5 c = c .before .before .before .before .before .before .write-outcome .kept .1 .1 .1 .0
+
+returns-2 : tie.Need-returns-2 Inv-loop μ-loop
+returns-2 c = applies-end (c .before .before .before .before .before .before .before .before .before .before .before .loop .inv) (c .before .before .before .before .before .before .before .before .before .before .loop-test .left) (c .before .before .before .before .before .before .write-outcome .ensures)
+
+pub apply-all-spec : {M : Type 1} → statement M
+apply-all-spec =
+    tie.close
+    (tie.spec
+    Inv-loop
+    μ-loop
+    loop-holds
+    mul-argument
+    array-read-argument
+    sub-apply-nodes
+    apply-nodes-requires
+    enum-known-applied
+    enum-told
+    applied-refusal-requires
+    stop-requires
+    same-length
+    same-length-2
+    returns
+    add-steps
+    add-done
+    loop-less
+    loop-again
+    write-outcome-requires
+    same-length-3
+    same-length-4
+    same-length-5
+    returns-2)

@@ -1,0 +1,202 @@
+// The stages of Run on a packet that passed the checks: Translate, Read of each argument, Apply in order, Write. Each stage is a function that ends
+// in the next one, as in the definition (the crate `running`), and takes its inner answer apart: a refusal clears what was made since Run's entry.
+// The table is sound throughout, so each stage is the inner operation, and no node is looked at again. specs/ says what the stages ask.
+use applying::Applied;
+use running::Ran;
+use table::Made;
+use table::Refusal;
+use ternary::Written;
+ghost use mathlib.Core.Path.{_≡_};
+ghost use mathlib.Core.List.{List};
+ghost use Prim.Native.Nat.{ℕ, _*_, _≤_, _<_};
+ghost use lib.ListN.{length, take};
+ghost use Rattle.table.specs.Outcome.{wholeOut};
+ghost use Rattle.packet.specs.Code.{endAt, valueAt, Stand, valuesAt};
+ghost use Rattle.running.specs.Run.{stopped, writes, applies, reads, stages};
+ghost use Rattle.stages.specs.Ready.{Ready, NodesIn};
+
+// What is to be applied once the rule is translated: its node, to so many arguments, under this step limit.
+struct Applications {
+    rule: usize,
+    count: usize,
+    limit: usize,
+}
+
+// The refusal of Translate or Read, where there is one.
+fn made_refusal(made: Made) -> Refusal
+    requires { ⌜ ((n u : ℕ) → made ≡ Made.Node n u → ⊥) ⌝ }
+    ensures { λ r. ⌜ made ≡ Made.Refused r ⌝ }
+{
+    match made {
+        Made::Refused(refusal) => refusal,
+        Made::Node { node: _, used: _ } => Refusal::Limits,
+    }
+}
+
+// The refusal of Apply, where there is one.
+fn applied_refusal(applied: Applied) -> Refusal
+    requires { ⌜ ((n u k : ℕ) → applied ≡ Applied.Node n u k → ⊥) ⌝ }
+    ensures { λ r. ⌜ applied ≡ Applied.Refused r ⌝ }
+{
+    match applied {
+        Applied::Refused(refusal) => refusal,
+        Applied::Node {
+            node: _,
+            used: _,
+            steps: _,
+        } => Refusal::Limits,
+    }
+}
+
+// The refusal of Write, where there is one.
+fn written_refusal(written: Written) -> Refusal
+    requires { ⌜ ((n : ℕ) → written ≡ Written.Digits n → ⊥) ⌝ }
+    ensures { λ r. ⌜ written ≡ Written.Refused r ⌝ }
+{
+    match written {
+        Written::Refused(refusal) => refusal,
+        Written::Digits(_) => Refusal::Limits,
+    }
+}
+
+// A stage was refused with `used` nodes in use before it: every node made since Run's entry is cleared, and the stack.
+fn stop(table: &mut [u32], used: usize, stack: &mut [u32], refusal: Refusal) -> Ran
+    requires { ⌜ used * 2 ≤ length (now table) ⌝ }
+    ensures { λ r. ⌜ ((o : List ℕ) → wholeOut r (now (table .exit)) (now (stack .exit)) o ≡ stopped refusal (now (table .entry)) used (now (stack .entry)) o) ⌝ }
+{
+    let len = stack.len();
+    nodes::clear(table, 0, used * 2);
+    nodes::clear(stack, 0, len);
+    Ran::Refused(refusal)
+}
+
+// Writes the outcome, a node that came of so many steps.
+fn write_outcome(
+    table: &mut [u32],
+    used: usize,
+    stack: &mut [u32],
+    out: &mut [u8],
+    node: usize,
+    steps: usize,
+) -> Ran
+    requires { ⌜ Ready (now table) used (now stack) (now out) × (node < used) ⌝ }
+    ensures { λ r. ⌜ wholeOut r (now (table .exit)) (now (stack .exit)) (now (out .exit))
+        ≡ writes (now (table .entry)) used (now (stack .entry)) (now (out .entry)) node steps ⌝ }
+{
+    let written = writer::write_node(table, used, stack, node, out);
+    let Written::Digits(digits) = written else {
+        return stop(table, used, stack, written_refusal(written));
+    };
+    Ran::Text {
+        steps: steps,
+        used: used,
+        digits: digits,
+    }
+}
+
+// Applies the rule's node to the argument nodes in order, under one step limit.
+fn apply_all(
+    table: &mut [u32],
+    used: usize,
+    stack: &mut [u32],
+    out: &mut [u8],
+    nodes: [usize; 8],
+    work: Applications,
+) -> Ran
+    requires { ⌜ Ready (now table) used (now stack) (now out) × (work .rule < used) × (work .limit ≤ 1000000) × (work .count ≤ 8) × NodesIn used nodes (work .count) ⌝ }
+    ensures { λ r. ⌜ wholeOut r (now (table .exit)) (now (stack .exit)) (now (out .exit))
+        ≡ applies (take (work .count) nodes) (work .limit) (now (table .entry)) used (now (stack .entry)) (now (out .entry)) (work .rule) 0 ⌝ }
+{
+    let count = work.count;
+    let limit = work.limit;
+    let mut node = work.rule;
+    let mut in_use = used;
+    let mut steps = 0;
+    let mut done = 0;
+    while done < count {
+        let argument = nodes[done];
+        let applied = machine::apply_nodes(table, in_use, stack, node, argument, limit - steps);
+        let Applied::Node {
+            node: given,
+            used: used_then,
+            steps: taken,
+        } = applied
+        else {
+            return stop(table, in_use, stack, applied_refusal(applied));
+        };
+        node = given;
+        in_use = used_then;
+        steps += taken;
+        done += 1;
+    }
+    write_outcome(table, in_use, stack, out, node, steps)
+}
+
+// Reads each argument's text in order, from a position of the packet on.
+fn read_all(
+    table: &mut [u32],
+    used: usize,
+    stack: &mut [u32],
+    out: &mut [u8],
+    packet: &[u8],
+    from: usize,
+    work: Applications,
+) -> Ran
+    requires { ⌜ Ready (now table) used (now stack) (now out) × (work .rule < used) × (work .limit ≤ 1000000) × (work .count ≤ 8) × Stand (now packet) from (work .count) ⌝ }
+    ensures { λ r. ⌜ wholeOut r (now (table .exit)) (now (stack .exit)) (now (out .exit))
+        ≡ reads (valuesAt (now (packet .entry)) from (work .count)) (now (table .entry)) used (now (stack .entry)) (now (out .entry))
+        (λ ns w u s. applies ns (work .limit) w u s (now (out .entry)) (work .rule) 0) ⌝ }
+{
+    let count = work.count;
+    let mut nodes = [0usize; 8];
+    let mut at = from;
+    let mut in_use = used;
+    let mut kept = 0;
+    while kept < count {
+        let part = packet::part_at(packet, at);
+        let start = part.start;
+        let end = part.end;
+        let made = reader::read_text(table, in_use, stack, &packet[start..end]);
+        let Made::Node {
+            node,
+            used: used_then,
+        } = made
+        else {
+            return stop(table, in_use, stack, made_refusal(made));
+        };
+        nodes[kept] = node;
+        at = end;
+        in_use = used_then;
+        kept += 1;
+    }
+    apply_all(table, in_use, stack, out, nodes, work)
+}
+
+// The stages of Run on a packet that passed the checks.
+pub fn run_stages(
+    table: &mut [u32],
+    stack: &mut [u32],
+    out: &mut [u8],
+    packet: &[u8],
+    count: usize,
+    limit: usize,
+) -> Ran
+    requires { ⌜ Ready (now table) 0 (now stack) (now out) × (limit ≤ 1000000) × (count ≤ 8) × (endAt (now packet) 0 ≤ length (now packet)) × Stand (now packet) (endAt (now packet) 0) count ⌝ }
+    ensures { λ r. ⌜ wholeOut r (now (table .exit)) (now (stack .exit)) (now (out .exit))
+        ≡ stages (now (table .entry)) (now (stack .entry)) (now (out .entry))
+        (record { rule = valueAt (now (packet .entry)) 0; arguments = valuesAt (now (packet .entry)) (endAt (now (packet .entry)) 0) count; limit = limit }) ⌝ }
+{
+    let part = packet::part_at(packet, 0);
+    let start = part.start;
+    let end = part.end;
+    let made = term::translate_rule(table, 0, stack, &packet[start..end]);
+    let Made::Node { node, used } = made else {
+        return stop(table, 0, stack, made_refusal(made));
+    };
+    let work = Applications {
+        rule: node,
+        count: count,
+        limit: limit,
+    };
+    read_all(table, used, stack, out, packet, end, work)
+}

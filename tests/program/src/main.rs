@@ -1,0 +1,338 @@
+//! Sends packets to the built program, at each border of what it reads and lends, and compares all
+//! that it prints with the line that document 01 gives for the packet. The comments derive each line
+//! from the paper; the second evaluator, written from the paper too, must give the same. The exit
+//! status is 1 where anything differs.
+//!
+//! `program PATH`, in the gate `target/bin/lazvorn`.
+//!
+//! What the derivations use, with "used" for the nodes in use and "made" for the new ones of Apply:
+//! - A rule of k leaves and variables under one abstraction, m of them its variable, is a tree of
+//!   5k - 2 + 2m nodes, and Translate needs two frames for each.
+//! - On one argument the engine takes the planner's steps and 2L + 5X - 1 more, L leaves and X
+//!   variables in the body. Each variable makes two nodes (I on N is ΔΔN on ΔN), and the planner's
+//!   uses of the leaf rule and of the stem rule make one each; nothing else does.
+//! - A node that is made is one that is used: a rule's tree, each argument's digits, and the made.
+
+use std::io::{ErrorKind, Write};
+use std::path::{Path, PathBuf};
+use std::process::{Command, Stdio};
+use std::time::Duration;
+
+/// The pause between two pieces of an input.
+const PAUSE: Duration = Duration::from_millis(200);
+
+/// What is sent: the packet, and where it is cut into two pieces, if it is.
+struct Case {
+    name: &'static str,
+    packet: Vec<u8>,
+    cut: Option<usize>,
+    line: String,
+}
+
+fn case(name: &'static str, packet: Vec<u8>, line: impl Into<String>) -> Case {
+    Case {
+        name,
+        packet,
+        cut: None,
+        line: line.into(),
+    }
+}
+
+fn refused(name: &'static str, packet: Vec<u8>, number: usize) -> Case {
+    case(name, packet, format!("{number} 0 0 -"))
+}
+
+// ---- packets, rules and texts
+
+fn field(tag: u8, value: &[u8]) -> Vec<u8> {
+    let length = u16::try_from(value.len()).expect("a value of at most 65,535 bytes");
+    [&[tag], &length.to_be_bytes()[..], value].concat()
+}
+
+/// A packet with the default step limit.
+fn packet(rule: &[u8], arguments: &[&str]) -> Vec<u8> {
+    let arguments = arguments.iter().flat_map(|text| field(2, text.as_bytes()));
+    field(1, rule).into_iter().chain(arguments).collect()
+}
+
+fn limited(rule: &[u8], arguments: &[&str], limit: u32) -> Vec<u8> {
+    [packet(rule, arguments), field(3, &limit.to_be_bytes())].concat()
+}
+
+/// λx. x x, λx. x and λx. Δ.
+const DOUBLE: &[u8] = &[2, 1, 3, 0, 3, 0];
+const SAME: &[u8] = &[2, 3, 0];
+const LEAF: &[u8] = &[2, 0];
+
+/// A stem of a stem and so on, with a leaf at the end: a text of n digits, with one tree pending.
+fn stems(n: usize) -> String {
+    "1".repeat(n - 1) + "0"
+}
+
+/// λx. Δ(Δ(.. (Δ(x(.. x)))) of k leaves and variables, `variables` of them x: the rule's tree has
+/// 5k - 2 + 2 * variables nodes.
+fn chain(k: usize, variables: usize) -> Vec<u8> {
+    let mut rule = vec![2];
+    for i in 0..k {
+        if i + 1 < k {
+            rule.push(1);
+        }
+        rule.extend(if i + variables < k { &[0][..] } else { &[3, 0] });
+    }
+    rule
+}
+
+/// Document 01's own lines that are no borders of what is lent: "The packet" and "Depot examples".
+fn papers_lines() -> Vec<Case> {
+    vec![
+        case("the paper's packet", packet(DOUBLE, &["0"]), "0 10 18 10"),
+        case("no arguments", packet(SAME, &[]), "0 0 5 21010"),
+        case(
+            "two arguments",
+            packet(&[2, 2, 3, 1], &["0", "10"]),
+            "0 11 22 0",
+        ),
+        refused("a text that is no tree", packet(LEAF, &["1"]), 4),
+        refused("an open rule", packet(&[2, 3, 1], &[]), 5),
+        refused(
+            "a seventeenth abstraction",
+            packet(&[[2; 17].to_vec(), vec![0]].concat(), &[]),
+            5,
+        ),
+        refused("nine arguments", packet(SAME, &["0"; 9]), 6),
+        refused("limit 9", limited(DOUBLE, &["0"], 9), 7),
+        refused("one that never ends", packet(DOUBLE, &["212101021010"]), 7),
+    ]
+}
+
+/// "Anything else, or more than 16,384 bytes, is 6."
+///
+/// A packet of 16,384 bytes cannot succeed: a rule takes at most 3 + 4,096 bytes, texts that 8,192 nodes
+/// can hold at most 8 * 3 + 8,192, and the limit 7. The one here has the rule λx. Δ, in 5 bytes, and a
+/// text of 16,376 digits, in 3 + 16,376: one whole tree, for which the 8,189 free nodes are too few,
+/// which is 8. A program that takes in fewer bytes finds the text cut short, which is 6.
+fn lengths() -> Vec<Case> {
+    let longest = packet(LEAF, &[&stems(16_376)]);
+    assert_eq!(longest.len(), 16_384);
+    let whole_but_longer = packet(LEAF, &[&stems(16_377)]);
+    let more_after_it = [&longest[..], b"0"].concat();
+    let far_longer = [&longest[..], &[b'0'; 100_000]].concat();
+    let in_two = |cut, case| Case {
+        cut: Some(cut),
+        ..case
+    };
+    vec![
+        refused("no byte", Vec::new(), 6),
+        refused("16,384 bytes", longest.clone(), 8),
+        refused("16,385 bytes, whole fields", whole_but_longer, 6),
+        refused("16,385 bytes, the last one of no field", more_after_it, 6),
+        refused("far more bytes than are read", far_longer, 6),
+        in_two(5, case("two pieces", packet(DOUBLE, &["0"]), "0 10 18 10")),
+        in_two(8_000, refused("16,384 bytes in two pieces", longest, 8)),
+    ]
+}
+
+/// 16,384 out bytes. λx. Δ(Δ(Δxx)(Δxx)) on a text of n digits gives a text of 4n + 4, for the stem, the
+/// fork, and two forks of x twice; with n = 4,095 that is 16,384. One stem more is one digit too many.
+///
+/// L = 4 and X = 4, so the rule's tree has 5 * 8 - 2 + 2 * 4 = 46 nodes. The planner uses the leaf rule
+/// or the stem rule once for each of the 7 applications. Steps: 7 + 2 * 4 + 5 * 4 - 1 = 34. Used:
+/// 46 + 4,095 + 2 * 4 + 7 = 4,156.
+fn out_bytes() -> Vec<Case> {
+    let fork = [1, 1, 0, 3, 0, 3, 0];
+    let fits = [&[2, 1, 0, 1, 1, 0], &fork[..], &fork[..]].concat();
+    let too_long = [&[2, 1, 0], &fits[1..]].concat();
+    let x = stems(4_095);
+    let text = format!("122{x}{x}2{x}{x}");
+    assert_eq!(text.len(), 16_384);
+    vec![
+        case(
+            "16,384 digits",
+            packet(&fits, &[&x]),
+            format!("0 34 4156 {text}"),
+        ),
+        refused("16,385 digits", packet(&too_long, &[&x]), 10),
+    ]
+}
+
+/// 8,192 nodes. λx. Δ has 3 nodes and drops its argument in 1 step, making none: a text of 8,189 digits
+/// just fits, and Read refuses one of 8,190. λx. x has 5 nodes and makes 2 in 4 steps: a text of 8,185
+/// digits just fits, and with one of 8,186 Apply lacks the last node. A rule of 8,192 nodes lacks only
+/// frames, which is 9, and a rule of 8,193 lacks nodes, which is 8: 5 * 1,638 - 2 + 2 * 2 = 8,192 and
+/// 5 * 1,639 - 2 = 8,193.
+fn nodes() -> Vec<Case> {
+    let x = stems(8_185);
+    vec![
+        case(
+            "8,192 nodes by Read",
+            packet(LEAF, &[&stems(8_189)]),
+            "0 1 8192 0",
+        ),
+        refused("8,193 nodes by Read", packet(LEAF, &[&stems(8_190)]), 8),
+        case(
+            "8,192 nodes by Apply",
+            packet(SAME, &[&x]),
+            format!("0 4 8192 {x}"),
+        ),
+        refused("8,193 nodes by Apply", packet(SAME, &[&stems(8_186)]), 8),
+        refused("8,192 nodes by Translate", packet(&chain(1_638, 2), &[]), 9),
+        refused("8,193 nodes by Translate", packet(&chain(1_639, 0), &[]), 8),
+    ]
+}
+
+/// 4,096 frames, by Translate. A rule of 2,048 nodes needs 4,096: 5 * 410 - 2 = 2,048. From Δv, v the
+/// chain that is one leaf shorter, abstraction gives Δ(Δv′)(KΔ): 21, the text of v′, 200. From the last
+/// leaf it gives KΔ, 200. One node more, 5 * 409 - 2 + 2 * 3 = 2,049, needs two frames more.
+fn frames_by_translate() -> Vec<Case> {
+    let text = "21".repeat(409) + &"200".repeat(410);
+    assert_eq!(text.len(), 2_048);
+    vec![
+        case(
+            "4,096 frames by Translate",
+            packet(&chain(410, 0), &[]),
+            format!("0 0 2048 {text}"),
+        ),
+        refused("4,098 frames by Translate", packet(&chain(409, 3), &[]), 9),
+    ]
+}
+
+/// The tree of y twice: Δ(Δy)(Ky) on N is Ky on N, y on N, and then y on the outcome of that.
+fn twice(y: &str) -> String {
+    format!("21{y}20{y}")
+}
+
+/// 4,096 frames, by Apply: a tree that holds a frame at each of 4,096 levels, and one of 4,097.
+///
+/// Let T = Δ(ΔΔΔ)Δ, a triage, and a = K(KT). T on a is a on Δ, KT, and that on Δ, T: 3 steps, triage and
+/// two drops. A level over f is Δ(Δ(Ka))f: on N, spread holds a frame during f on N, which gives T, and
+/// during Ka on N, which gives a; then T is applied to a. So a level over an f that gives T gives T, in 5
+/// steps more and with one frame more, and makes no node. At the bottom is KT, which needs no frame and
+/// gives T in 1 step. So n levels on N hold n frames and take 5n + 1 steps; the triage of T holds one
+/// where the spread has just let go of it.
+///
+/// A level is put over f by w = Δ(Δ(Ka)) on f, the stem rule, in 1 step and 1 node. c = w sixteen times,
+/// by `twice` four times in the text, has 16 * 13 + 4 * 15 = 268 digits.
+///
+/// t = Δ(Δ(ΔΔ))(Δ(ΔΔ)(KΔ)) on y gives Δ(Δy)(Ky), y twice. Spread; Δ(ΔΔ)(KΔ) on y is spread, drop, leaf
+/// (Δy), leaf (Δ(Δy)); ΔΔ on y is stem (Ky); Δ(Δy) on Ky is stem: 7 steps and 4 nodes.
+///
+/// The rule λx. x(x(x x)) has 5 * 4 - 2 + 2 * 4 = 26 nodes. It is applied to t, c, KT and a leaf:
+/// - to t: t on t is t twice, r; t on r is r twice, q; t on q is q twice. The planner takes 3 * 7 steps
+///   and makes 3 * 4 nodes; with L = 0 and X = 4 the engine takes 21 + 20 - 1 = 40 and makes 12 + 8 = 20.
+/// - to c: y twice takes 2 steps, spread and drop, beside those of y on both. t on one takes 7, so r
+///   takes 2 + 2 * 7 = 16, q 2 + 2 * 16 = 34, and this 2 + 2 * 34 = 70, for 8 doublings with 32 nodes. The
+///   outcome is w 16 * 256 = 4,096 times.
+/// - to KT: the 4,096 uses of the stem rule, and 2 steps for each of the 4,095 places where two are put
+///   together: 4,096 + 2 * 4,095 = 12,286 steps and 4,096 nodes.
+/// - to the leaf: 5 * 4,096 + 1 = 20,481 steps, no node, 4,096 frames, and T, 22000.
+///
+/// Steps: 40 + 70 + 12,286 + 20,481 = 32,877. Used: 26 + 10 + 268 + 7 + 1 + 20 + 32 + 4,096 = 4,460.
+fn frames_by_apply() -> Vec<Case> {
+    let rule = [2, 1, 3, 0, 1, 3, 0, 1, 3, 0, 3, 0];
+    let t = "2110210200";
+    let bottom = "2022000";
+    let constant_a = "20202022000";
+    let w = format!("11{constant_a}");
+    let c = twice(&twice(&twice(&twice(&w))));
+    let one_more = format!("21{constant_a}{bottom}");
+    let line = "0 32877 4460 22000";
+    let with = |bottom: &str, limit| limited(&rule, &[t, &c, bottom, "0"], limit);
+    vec![
+        case("4,096 frames by Apply", with(bottom, 1_000_000), line),
+        refused("4,097 frames by Apply", with(&one_more, 1_000_000), 9),
+        case("32,877 steps", with(bottom, 32_877), line),
+        refused("one step too few", with(bottom, 32_876), 7),
+    ]
+}
+
+// ---- the program
+
+/// All that the program prints for an input, sent in one piece or two.
+fn printed(program: &Path, case: &Case) -> std::io::Result<String> {
+    let mut child = Command::new(program)
+        .stdin(Stdio::piped())
+        .stdout(Stdio::piped())
+        .spawn()?;
+    let mut input = child.stdin.take().expect("a pipe to the program");
+    let (first, second) = case.packet.split_at(case.cut.unwrap_or(0));
+    for piece in [first, second] {
+        // The program need not read more than tells it that a packet is too long.
+        match input.write_all(piece).and_then(|()| input.flush()) {
+            Err(error) if error.kind() != ErrorKind::BrokenPipe => return Err(error),
+            _ => {}
+        }
+        if case.cut.is_some() {
+            std::thread::sleep(PAUSE);
+        }
+    }
+    drop(input);
+    let output = child.wait_with_output()?;
+    if !output.status.success() {
+        return Ok(format!("ended with {}", output.status));
+    }
+    Ok(String::from_utf8_lossy(&output.stdout).into_owned())
+}
+
+/// The start of a line, which may be very long.
+fn shown(line: &str) -> String {
+    let start: String = line.chars().take(60).collect();
+    format!("{start:?}, {} bytes", line.len())
+}
+
+/// Whether the program prints the line, and the second evaluator gives it.
+fn same(program: &Path, case: &Case) -> bool {
+    let second = second::line(&second::run(&case.packet, second::PROGRAM));
+    let given = printed(program, case).unwrap_or_else(|error| error.to_string());
+    let wanted = format!("{}\n", case.line);
+    if given != wanted {
+        println!(
+            "{}: printed {}, not {}",
+            case.name,
+            shown(&given),
+            shown(&wanted)
+        );
+    }
+    if second != case.line {
+        println!(
+            "{}: by the second evaluator {}, not {}",
+            case.name,
+            shown(&second),
+            shown(&case.line)
+        );
+    }
+    given == wanted && second == case.line
+}
+
+fn compare(program: &Path) -> bool {
+    let parts = [
+        papers_lines(),
+        lengths(),
+        out_bytes(),
+        nodes(),
+        frames_by_translate(),
+        frames_by_apply(),
+    ];
+    let cases: Vec<Case> = parts.into_iter().flatten().collect();
+    let differences = cases.iter().filter(|case| !same(program, case)).count();
+    println!(
+        "{} packets to the program, {differences} differences",
+        cases.len()
+    );
+    differences == 0
+}
+
+fn main() {
+    let Some(program) = std::env::args_os().nth(1).map(PathBuf::from) else {
+        eprintln!("usage: program PATH");
+        std::process::exit(2);
+    };
+    // The second evaluator recurses as deep as trees and frames go.
+    let thread = std::thread::Builder::new().stack_size(1 << 28);
+    let same = thread
+        .spawn(move || compare(&program))
+        .expect("a thread")
+        .join();
+    if !matches!(same, Ok(true)) {
+        std::process::exit(1);
+    }
+}
