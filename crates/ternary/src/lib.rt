@@ -1,4 +1,4 @@
-// Ternary text, Read and Write as definitions, in specs/, and their theorems, in proofs/. Read in code is the crate `reader`, Write `writer`.
+// Ternary text, Read and Write as definitions, in specs/, and their theorems, in proofs/. Read in code is the crate `reader`, Write the crate `writer`.
 use table::Refusal;
 
 // Write's answer: how many digits were written.
