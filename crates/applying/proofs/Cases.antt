@@ -8,12 +8,12 @@ use native.Mathlib.Omega.{arith}
 use lib.Dec.{ltb, leb}
 use borrow.Author.Tests.{ltb-true, lt-ltb}
 use Rattle.table.specs.Nodes.{sound, Sound}
-use Rattle.table.specs.Outcome.{whole, frames, fits, atEntry}
+use Rattle.table.specs.Outcome.{Entered, whole, frames, fits, atEntry}
 use Rattle.table.specs.Refusal.{number, clears}
 use Rattle.table.specs.declared.Refusal.{Refusal}
 use Rattle.table.specs.declared.Refusal.the-variants.{Limits, Broken}
 use Rattle.table.proofs.Words.{and-left, and-right}
-use Rattle.table.proofs.Entry.{Entered, entered, enters, entry-limits, entry-broken}
+use Rattle.table.proofs.Entry.{entered, enters, entry-limits, entry-broken}
 use Rattle.applying.specs.declared.Applied.the-variants.{Refused}
 use Rattle.applying.specs.Machine.{uses}
 use Rattle.applying.specs.Apply.{settle, begin, applyNodes, apply}

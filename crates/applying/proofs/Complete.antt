@@ -10,12 +10,12 @@ use borrow.Author.Tests.{lt-ltb, leb-true, leb-false}
 use Rattle.calculus.specs.Tree.{Tree}
 use Rattle.calculus.specs.Rules.{Apply, newNodes}
 use Rattle.table.specs.Nodes.{treeAt}
-use Rattle.table.specs.Outcome.{frames, stopped}
+use Rattle.table.specs.Outcome.{Entered, frames, stopped}
 use Rattle.table.specs.Refusal.{number, clears}
 use Rattle.table.specs.declared.Refusal.{Refusal}
 use Rattle.table.specs.declared.Refusal.the-variants.{Steps, Nodes, Frames}
 use Rattle.table.proofs.Trees.{kept-refl}
-use Rattle.table.proofs.Entry.{Entered, enters}
+use Rattle.table.proofs.Entry.{enters}
 use Rattle.applying.specs.declared.Applied.the-variants.{Node, Refused}
 use Rattle.applying.specs.Machine.{State, Turn, more, done, stop, turn, after, uses}
 use Rattle.applying.specs.Apply.{settle, begin, applyNodes, apply}

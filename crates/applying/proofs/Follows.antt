@@ -9,10 +9,11 @@ use Rattle.calculus.specs.Tree.{Tree}
 use Rattle.calculus.specs.Rules.{Apply}
 use Rattle.calculus.proofs.Unique.{newNodes-unique}
 use Rattle.table.specs.Nodes.{Table, Placed, treeAt}
-use Rattle.table.specs.Outcome.{frames, stopped}
+use Rattle.table.specs.Outcome.{Entered, frames, stopped}
 use Rattle.table.specs.declared.Refusal.{Refusal}
-use Rattle.table.proofs.Trees.{Kept, kept-refl, kept-tree}
-use Rattle.table.proofs.Entry.{Entered, enters, stopped-kept}
+use Rattle.table.specs.Claims.{Kept}
+use Rattle.table.proofs.Trees.{kept-refl, kept-tree}
+use Rattle.table.proofs.Entry.{enters, stopped-kept}
 use Rattle.applying.specs.declared.Applied.the-variants.{Node, Refused}
 use Rattle.applying.specs.Machine.{rule, needsNode, State, Turn, more, done, stop, turn, after, uses, madeAfter, made}
 use Rattle.applying.specs.Apply.{settle, begin, apply}

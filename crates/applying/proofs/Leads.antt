@@ -10,9 +10,10 @@ use borrow.Author.Tests.{ltb-true}
 use Rattle.calculus.specs.Tree.{Tree, leaf, stem, fork}
 use Rattle.calculus.specs.Rules.{Apply, by-leaf, by-stem, by-drop, by-spread, by-triage, newNodes}
 use Rattle.table.specs.Nodes.{Table, capacity, first, second, Sound, treeAt, make}
+use Rattle.table.specs.Claims.{Has, Kept, Places}
 use Rattle.table.proofs.Words.{sound-node}
-use Rattle.table.proofs.Trees.{tree-leaf, tree-stem, tree-fork, Kept, kept-tree, kept-trans}
-use Rattle.table.proofs.Making.{Places, Has, stem-of, fork-of}
+use Rattle.table.proofs.Trees.{tree-leaf, tree-stem, tree-fork, kept-tree, kept-trans}
+use Rattle.table.proofs.Making.{stem-of, fork-of}
 use Rattle.applying.specs.declared.Rule.{Rule}
 use Rattle.applying.specs.declared.Rule.the-variants.{Leaf, Stem, Drop, Spread, Triage}
 use Rattle.applying.specs.declared.Frame.{Frame}

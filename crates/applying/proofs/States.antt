@@ -11,9 +11,10 @@ use Rattle.calculus.specs.Tree.{Tree}
 use Rattle.table.specs.Nodes.{Table, Placed, capacity, first, second, Sound, make}
 use Rattle.table.specs.declared.Refusal.{Refusal}
 use Rattle.table.specs.declared.Refusal.the-variants.{Nodes, Frames}
+use Rattle.table.specs.Claims.{Extends, Places}
 use Rattle.table.proofs.Words.{sound-node}
-use Rattle.table.proofs.Trees.{Extends, extends-refl, extends-trans}
-use Rattle.table.proofs.Making.{Places, make-used, make-stem, make-fork}
+use Rattle.table.proofs.Trees.{extends-refl, extends-trans}
+use Rattle.table.proofs.Making.{make-used, make-stem, make-fork}
 use Rattle.applying.specs.declared.Rule.{Rule}
 use Rattle.applying.specs.declared.Rule.the-variants.{Leaf, Stem, Drop, Spread, Triage}
 use Rattle.applying.specs.declared.Frame.{Frame}

@@ -13,8 +13,8 @@ use Rattle.table.specs.Outcome.{frames, zeros, stopped}
 use Rattle.table.specs.Refusal.{number, clears}
 use Rattle.table.specs.declared.Refusal.{Refusal}
 use Rattle.table.specs.declared.Refusal.the-variants.{Steps}
+use Rattle.table.specs.Claims.{Extends}
 use Rattle.table.proofs.Words.{length-cleared, cleared-below, cleared-inside, cleared-beyond}
-use Rattle.table.proofs.Trees.{Extends}
 use Rattle.table.proofs.Entry.{enters, stopped-kept}
 use Rattle.applying.specs.declared.Applied.the-variants.{Refused}
 use Rattle.applying.specs.Machine.{State, Turn, more, done, stop, turn, after, uses, made}

@@ -8,7 +8,7 @@ use Rattle.calculus.specs.Tree.{Tree}
 use Rattle.calculus.specs.Rules.{Apply, newNodes}
 use Rattle.table.specs.Nodes.{Sound, treeAt}
 use Rattle.table.specs.Outcome.{frames, zeros, atEntry}
-use Rattle.table.proofs.Trees.{Extends}
+use Rattle.table.specs.Claims.{Extends}
 use Rattle.applying.specs.declared.Applied.the-variants.{Node}
 use Rattle.applying.specs.Machine.{done, uses}
 use Rattle.applying.specs.Apply.{begin, apply}

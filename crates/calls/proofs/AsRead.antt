@@ -12,7 +12,7 @@ use Rattle.ternary.specs.Read.{read}
 use Rattle.ternary.proofs.OneText.{text-read}
 use Rattle.ternary.proofs.Reading.{read-gives}
 use Rattle.translation.specs.Translate.{translate}
-use Rattle.translation.proofs.Translates.{Translates}
+use Rattle.translation.specs.Lacks.{Translates}
 
 -- the stack does not matter to the words that are laid
 same-words : (w : List ℕ) (u : ℕ) (s z : List ℕ) (x : Tree) → laid w u s x .table ≡ laid w u z x .table

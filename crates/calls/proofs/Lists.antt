@@ -16,8 +16,9 @@ use Rattle.calculus.specs.Runs.{Translated}
 use Rattle.calculus.proofs.Rule.{rule-leads}
 use Rattle.calculus.proofs.Demand3.{demand-3}
 use Rattle.table.specs.Nodes.{Table, Sound, treeAt}
+use Rattle.table.specs.Claims.{Has}
 use Rattle.table.proofs.Trees.{kept-tree}
-use Rattle.table.proofs.Making.{Has, size-pos}
+use Rattle.table.proofs.Making.{size-pos}
 use Rattle.ternary.proofs.OneText.{whole-text, length-text}
 use Rattle.ternary.proofs.Reading.{read-gives}
 use Rattle.translation.proofs.Translates.{translate-gives}

@@ -10,9 +10,10 @@ use Rattle.table.specs.Refusal.{Numbers, madeNumbers, refusedNumbers}
 use Rattle.table.specs.declared.Refusal.{Refusal}
 use Rattle.table.specs.declared.Made.{Made}
 use Rattle.table.specs.declared.Made.the-variants as made
+use Rattle.table.specs.Claims.{Has, Kept, Places}
 use Rattle.table.proofs.Words.{sound-same}
-use Rattle.table.proofs.Trees.{Kept, kept-refl, kept-trans}
-use Rattle.table.proofs.Making.{Places, Has, stays}
+use Rattle.table.proofs.Trees.{kept-refl, kept-trans}
+use Rattle.table.proofs.Making.{stays}
 use Rattle.ternary.specs.Read as ternary
 use Rattle.ternary.proofs.Reading.{read-gives, read-refused}
 use Rattle.translation.specs.Translate as translation

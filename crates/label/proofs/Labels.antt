@@ -15,9 +15,10 @@ use Rattle.table.specs.declared.Refusal.the-variants.{Nodes}
 use Rattle.table.specs.declared.Refusal.the-variants as refusal
 use Rattle.table.specs.declared.Made.{Made}
 use Rattle.table.specs.declared.Made.the-variants.{Node, Refused}
+use Rattle.table.specs.Claims.{Extends, Has, Places}
 use Rattle.table.proofs.Words.{and-left, and-right}
-use Rattle.table.proofs.Trees.{Extends, extends-refl, extends-trans}
-use Rattle.table.proofs.Making.{Places, Has, has, stays, stem-of, fork-of, make-used, make-leaf}
+use Rattle.table.proofs.Trees.{extends-refl, extends-trans}
+use Rattle.table.proofs.Making.{has, stays, stem-of, fork-of, make-used, make-leaf}
 use Rattle.table.proofs.Entry.{entered}
 use Rattle.table.proofs.Laid.{refused-made}
 use Rattle.label.specs.Label.{labelled, nodes, label}

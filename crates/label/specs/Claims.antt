@@ -10,7 +10,7 @@ use Rattle.table.specs.Nodes.{capacity, sound, treeAt}
 use Rattle.table.specs.Outcome.{fits, atEntry}
 use Rattle.table.specs.declared.Refusal.{Refusal}
 use Rattle.table.specs.declared.Refusal.the-variants.{Limits, Broken, Node, Nodes}
-use Rattle.table.proofs.Making.{Places}
+use Rattle.table.specs.Claims.{Places}
 use Rattle.label.specs.Label.{labelled, label}
 
 -- The refusal of Label, and the table as it leaves it: "1, 2, then 3 for either number. 8: fewer than seven free nodes." (Operations, Label). 8 is met

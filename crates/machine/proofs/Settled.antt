@@ -7,7 +7,7 @@ use lib.ListN.{length}
 use lib.Dec.{leb}
 use borrow.Author.Tests.{lt-ltb, le-ltb, leb-true}
 use Rattle.table.specs.Nodes.{Sound, cleared}
-use Rattle.table.specs.Outcome.{Outcome, whole, frames, zeros, atEntry, stopped}
+use Rattle.table.specs.Outcome.{Entered, Outcome, whole, frames, zeros, atEntry, stopped}
 use Rattle.checks.specs.Code.{refusalOf}
 use Rattle.checks.specs.declared.Checked.{Checked}
 use Rattle.checks.specs.declared.Checked.the-variants as check
@@ -15,7 +15,7 @@ use Rattle.table.specs.declared.Refusal.{Refusal}
 use Rattle.table.specs.declared.Refusal.the-variants.{Steps, Nodes, Frames}
 use Rattle.table.specs.declared.Refusal.the-variants as refusal
 use Rattle.table.proofs.Words.{cleared-all}
-use Rattle.table.proofs.Entry.{Entered, entered, enters, check-refuses}
+use Rattle.table.proofs.Entry.{entered, enters, check-refuses}
 use Rattle.applying.specs.declared.Applied.{Applied}
 use Rattle.applying.specs.declared.Applied.the-variants.{Node, Refused}
 use Rattle.frames.specs.declared.End.{End}

@@ -21,7 +21,7 @@ pub enum Form {
 }
 
 // What stands at a position: a field with its tag, which ends there, or none that ends within the packet.
-pub enum Found {
+enum Found {
     Field { tag: usize, end: usize },
     Nothing,
 }

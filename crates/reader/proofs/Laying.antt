@@ -15,7 +15,8 @@ use Rattle.table.proofs.Making.{make-node, lay-used, lay-node}
 use Rattle.ternary.specs.Text.{text, takeLeaf, takeStem, takeFork, takeDigit, pending, single, treeOf, manyPending, mostPending}
 use Rattle.ternary.specs.Text.{texts}
 use Rattle.reader.specs.Code.{layAll, nodesOf, Holds, LaidBy, TakesDigit, LaysText, laysAs}
-use Rattle.ternary.proofs.OneText.{zero-one, pending-texts, length-text}
+use Rattle.table.proofs.Words.{zero-one}
+use Rattle.ternary.proofs.OneText.{pending-texts, length-text}
 use Rattle.reader.proofs.Scanning.{drop-more, pending-none}
 
 -- ---- what a digit that is taken finds and leaves

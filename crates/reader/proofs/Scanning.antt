@@ -13,7 +13,7 @@ use Rattle.calculus.specs.Tree.{Tree}
 use Rattle.ternary.specs.Text.{takeLeaf, takeStem, takeFork, takeDigit, pending, single, treeOf, manyPending, mostPending}
 use Rattle.reader.specs.declared.Scanned.the-variants.{Whole, Broken}
 use Rattle.reader.specs.Code.{ScanSays}
-use Rattle.ternary.proofs.OneText.{zero-one}
+use Rattle.table.proofs.Words.{zero-one}
 
 -- what a stem's and a fork's digit make of the number of trees pending
 stem-count : (ts : List Tree) → length ts ≡ manyPending (takeStem ts)

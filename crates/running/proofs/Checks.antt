@@ -14,9 +14,8 @@ use Rattle.calculus.specs.Bytes.{rule}
 use Rattle.table.specs.Outcome.{wholeOut}
 use Rattle.table.specs.declared.Refusal.{Refusal}
 use Rattle.table.specs.declared.Refusal.the-variants as refusal
-use Rattle.table.proofs.Words.{and-left, and-right}
+use Rattle.table.proofs.Words.{and-left, and-right, zero-one}
 use Rattle.ternary.specs.Read.{readable}
-use Rattle.ternary.proofs.OneText.{zero-one}
 use Rattle.fields.specs.Packet.{Packet, packet}
 use Rattle.running.specs.Run.{allReadable, runPacket, lengthsFit, run}
 use Rattle.running.specs.Claims.{Fit, Unreadable, here, there, Checked, Refuses, too-long, no-packet, no-rule, no-text}

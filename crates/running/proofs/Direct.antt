@@ -18,7 +18,7 @@ use Rattle.calculus.proofs.Rule.{rule-leads}
 use Rattle.calculus.proofs.Demand3.{demand-3}
 use Rattle.ternary.specs.Text.{text, treeOf}
 use Rattle.ternary.specs.Read.{readable}
-use Rattle.ternary.proofs.OneText.{zero-one}
+use Rattle.table.proofs.Words.{zero-one}
 use Rattle.ternary.proofs.Reading.{readable-some}
 use Rattle.fields.specs.Packet.{Packet}
 use Rattle.running.specs.Run.{run, ranNumbers}

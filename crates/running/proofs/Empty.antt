@@ -10,7 +10,7 @@ use Rattle.calculus.specs.Term.{Term}
 use Rattle.calculus.specs.Bytes.{rule}
 use Rattle.calculus.specs.Abstraction.{ruleTree}
 use Rattle.ternary.specs.Text.{treeOf}
-use Rattle.ternary.proofs.OneText.{zero-one}
+use Rattle.table.proofs.Words.{zero-one}
 use Rattle.fields.specs.Packet.{Packet, packet}
 use Rattle.running.specs.Run.{run}
 use Rattle.running.specs.Claims.{total, nodesBy, Completes, Bare}

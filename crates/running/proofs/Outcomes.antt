@@ -10,7 +10,7 @@ use Rattle.calculus.specs.Abstraction.{ruleTree}
 use Rattle.table.specs.Nodes.{Table, capacity, Sound, cleared}
 use Rattle.table.specs.Outcome.{Outcome, wholeOut, zeros}
 use Rattle.table.specs.declared.Refusal.{Refusal}
-use Rattle.table.proofs.Trees.{Extends}
+use Rattle.table.specs.Claims.{Extends}
 use Rattle.ternary.specs.Text.{text}
 use Rattle.fields.specs.Packet.{Packet}
 use Rattle.running.specs.Claims.{nodesBy, Stops}

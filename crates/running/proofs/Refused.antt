@@ -13,7 +13,7 @@ use Rattle.table.specs.declared.Refusal.{Refusal}
 use Rattle.table.specs.declared.Refusal.the-variants.{Limits, Broken, Node, Text, Rule, Steps, Nodes, Frames, Out}
 use Rattle.table.specs.declared.Refusal.the-variants as refusal
 use Rattle.ternary.specs.Write.{lacks}
-use Rattle.ternary.proofs.OneText.{zero-one}
+use Rattle.table.proofs.Words.{zero-one}
 use Rattle.ternary.specs.Held.{Spent, no-out, no-frame}
 use Rattle.applying.specs.Machine.{State}
 use Rattle.applying.specs.Lacks.{Lacks, no-place, all-held, Halts, limit-reached, at-use}

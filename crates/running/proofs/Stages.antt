@@ -14,18 +14,20 @@ use Rattle.calculus.specs.Bytes.{rule}
 use Rattle.calculus.specs.Abstraction.{ruleTree}
 use Rattle.calculus.proofs.Unique.{apply-unique, newNodes-unique, newNodesAll-unique}
 use Rattle.table.specs.Nodes.{Table, Placed, capacity, sound, Sound, treeAt, lay}
-use Rattle.table.specs.Outcome.{Outcome, frames, zeros, placed, laid}
+use Rattle.table.specs.Outcome.{Entered, Outcome, frames, zeros, placed, laid}
 use Rattle.table.specs.declared.Refusal.{Refusal}
 use Rattle.table.specs.declared.Refusal.the-variants.{Nodes, Frames}
 use Rattle.table.specs.declared.Made.{Made}
 use Rattle.table.specs.declared.Made.the-variants as made
-use Rattle.table.proofs.Trees.{Kept, kept-refl, kept-trans, Extends, extends-refl, extends-trans}
-use Rattle.table.proofs.Making.{Has, has, stays}
-use Rattle.table.proofs.Entry.{Entered, enters}
+use Rattle.table.specs.Claims.{Extends, Has, Kept}
+use Rattle.table.proofs.Trees.{kept-refl, kept-trans, extends-refl, extends-trans}
+use Rattle.table.proofs.Making.{has, stays}
+use Rattle.table.proofs.Entry.{enters}
 use Rattle.ternary.specs.Text.{mostPending}
 use Rattle.ternary.specs.Read.{read, readable}
 use Rattle.ternary.specs.Write as write
-use Rattle.ternary.proofs.OneText.{zero-one, length-text}
+use Rattle.table.proofs.Words.{zero-one}
+use Rattle.ternary.proofs.OneText.{length-text}
 use Rattle.ternary.specs.Lacks.{ReadLacks, WriteLacks, WriteCase}
 use Rattle.ternary.proofs.Reading.{some-readable, read-refused, read-lacks, read-gives}
 use Rattle.ternary.proofs.Writes.{write-case}

@@ -9,11 +9,10 @@ use lib.Seq.{ext-getD}
 use lib.Dec.{ltb, leb}
 use borrow.Author.Tests.{ltb-true, ltb-false}
 use Rattle.table.specs.Nodes.{Table, Placed, capacity, Sound, cleared}
-use Rattle.table.specs.Outcome.{frames, zeros, stopped}
+use Rattle.table.specs.Outcome.{Entered, frames, zeros, stopped}
 use Rattle.table.specs.declared.Refusal.{Refusal}
+use Rattle.table.specs.Claims.{Extends}
 use Rattle.table.proofs.Words.{cleared-none, length-cleared, cleared-inside, cleared-beyond}
-use Rattle.table.proofs.Trees.{Extends}
-use Rattle.table.proofs.Entry.{Entered}
 use Rattle.applying.specs.declared.Applied.the-variants.{Refused}
 use Rattle.applying.specs.Machine.{Turn, more, done, stop, uses, made}
 use Rattle.applying.specs.Apply.{settle, begin, apply}

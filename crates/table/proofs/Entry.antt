@@ -9,12 +9,11 @@ use lib.ListN.{length, getD}
 use lib.Dec.{leb}
 use borrow.Author.Tests.{leb-true, le-leb}
 use Rattle.table.specs.Nodes.{Table, capacity, sound, Sound, cleared}
-pub use Rattle.table.specs.Outcome.{Entered}
-use Rattle.table.specs.Outcome.{Outcome, fits, atEntry, unless, stopped, zeros}
+use Rattle.table.specs.Outcome.{Outcome, Entered, fits, atEntry, unless, stopped, zeros}
 use Rattle.table.specs.declared.Refusal.{Refusal}
 use Rattle.table.specs.declared.Refusal.the-variants.{Limits, Broken}
+use Rattle.table.specs.Claims.{Kept, Extends, Undone}
 use Rattle.table.proofs.Words.{and-left, and-right, cleared-below, cleared-inside, cleared-beyond, length-cleared}
-use Rattle.table.proofs.Trees.{Kept, Extends}
 
 pub entered : (within : Bool) (w : List ℕ) (u : ℕ) (s : List ℕ) → atEntry within w u s ≡ none → Entered within w u s
 unfolding atEntry fits
@@ -66,15 +65,6 @@ entry-limits within w u s e = rw e
 pub entry-broken : (within : Bool) (w : List ℕ) (u : ℕ) (s : List ℕ) → (within && fits w u s) ≡ true → sound w u ≡ false → atEntry within w u s ≡ some Broken
 unfolding atEntry
 entry-broken within w u s e h = rw (e, h)
-
--- "Numbers 7 to 10 set to 0 the words of the nodes made in the call and the whole stack": of a table that was t and stopped as z, every other word
--- is as found.
-pub record Undone {A : Type 0} (t z : Table) (o : Outcome A) (s : List ℕ) : Type 0 where
-  pub same-length : length (o .table) ≡ length (t .words)
-  pub made-cleared : (i : ℕ) → t .used * 2 ≤ i → i < z .used * 2 → getD (o .table) i 0 ≡ 0
-  pub below : (i : ℕ) → i < t .used * 2 → getD (o .table) i 0 ≡ getD (t .words) i 0
-  pub beyond : (i : ℕ) → z .used * 2 ≤ i → getD (o .table) i 0 ≡ getD (t .words) i 0
-  pub stack : o .stack ≡ zeros s
 
 pub stopped-undone : {A : Type 0} {t z : Table} → Extends t z → z .used ≤ capacity (z .words) → (a : A) (s : List ℕ) → Undone t z (stopped a z (t .used) s) s
 unfolding stopped

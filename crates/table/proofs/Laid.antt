@@ -14,18 +14,14 @@ use Rattle.table.specs.declared.Refusal.{Refusal}
 use Rattle.table.specs.declared.Refusal.the-variants.{Nodes, Frames}
 use Rattle.table.specs.declared.Made.{Made}
 use Rattle.table.specs.declared.Made.the-variants.{Node, Refused}
+use Rattle.table.specs.Claims.{Places, Lays, Room}
+use Rattle.table.specs.Claims.Room.{no-nodes, no-frames, enough}
 use Rattle.table.proofs.Words.{cleared-none}
-use Rattle.table.proofs.Making.{Places, lay-places, lay-used, lay-node}
+use Rattle.table.proofs.Making.{lay-places, lay-used, lay-node}
 
 -- no refusal is a node
 pub refused-made : {A : Type 0} {e : Refusal} {v u : ℕ} → Refused e ≡ Node v u → A
 refused-made q = let n : _≡_ {A = ℕ} 0 1 = cc in absurd (omega arith)
-
--- An outcome o that gave node v, of the tree x, in a table that was w with u nodes in use.
-pub record Lays (w : List ℕ) (u : ℕ) (x : Tree) (o : Outcome Made) (v u′ : ℕ) : Type 0 where
-  pub places : Places (record { words = w; used = u }) (record { table = record { words = o .table; used = u′ }; node = v }) x
-  pub node-is : v + 1 ≡ u + size x
-  pub used-is : u′ ≡ u + size x
 
 pub laid-gives : (w : List ℕ) (u : ℕ) (s : List ℕ) (x : Tree) (v u′ : ℕ) → Sound (record { words = w; used = u }) → size x ≤ capacity w - u
     → laid w u s x .answer ≡ Node v u′ → Lays w u x (laid w u s x) v u′
@@ -52,13 +48,6 @@ laid-answer w u s x =
 pub laid-stack : (w : List ℕ) (u : ℕ) (s : List ℕ) (x : Tree) → laid w u s x .stack ≡ zeros s
 unfolding laid placed
 laid-stack w u s x = refl
-
--- "Read, Translate and Label meet 8 and 9 before they make a node.": the outcome o where a tree x of so many nodes that takes so many frames is to be
--- laid out. 8 and 9 come only on their conditions, and leave the table as found and the stack 0.
-pub data Room (w : List ℕ) (u : ℕ) (s : List ℕ) (nodes held : ℕ) (x : Tree) (o : Outcome Made) : Type 0 where
-  no-nodes : capacity w - u < nodes → o ≡ whole (Refused Nodes) w (zeros s) → Room w u s nodes held x o
-  no-frames : nodes ≤ capacity w - u → frames s < held → o ≡ whole (Refused Frames) w (zeros s) → Room w u s nodes held x o
-  enough : nodes ≤ capacity w - u → held ≤ frames s → o ≡ laid w u s x → Room w u s nodes held x o
 
 module _ (w : List ℕ) (u : ℕ) (s : List ℕ) (nodes held : ℕ) (x : Tree) where
   -- a refusal for want of room: nothing was made, so the table is as found

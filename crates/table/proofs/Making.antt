@@ -7,15 +7,9 @@ use native.Mathlib.Omega.{arith}
 use lib.ListN.{length, getD}
 use Rattle.calculus.specs.Tree.{Tree, leaf, stem, fork, size}
 use Rattle.table.specs.Nodes.{Table, Placed, capacity, first, second, sound, Sound, treeAt, make, lay}
+use Rattle.table.specs.Claims.{Kept, Extends, Places, Has}
 use Rattle.table.proofs.Words.{Unbroken, wrote, wrote-other, wrote-first, wrote-second, length-wrote, sound-wrote}
-use Rattle.table.proofs.Trees.{Kept, Extends, extends-trans, kept-tree, tree-leaf, tree-stem, tree-fork}
-
--- the node made in, or found in, a table that was t has the tree x
-pub record Places (t : Table) (m : Placed) (x : Tree) : Type 0 where
-  pub fine : Sound (m .table)
-  pub extends : Extends t (m .table)
-  pub inside : m .node < m .table .used
-  pub tree : treeAt (m .table .words) (m .node) ≡ x
+use Rattle.table.proofs.Trees.{extends-trans, kept-tree, tree-leaf, tree-stem, tree-fork}
 
 -- the numbers of a node that is made
 pub make-node : (t : Table) (a b : ℕ) → make t a b .node ≡ t .used
@@ -113,11 +107,6 @@ unfolding size
 size-pos leaf = omega arith
 size-pos (stem p) = omega arith
 size-pos (fork p q) = omega arith
-
--- node i of t is in use and has the tree x
-pub record Has (t : Table) (i : ℕ) (x : Tree) : Type 0 where
-  pub inside : i < t .used
-  pub tree : treeAt (t .words) i ≡ x
 
 pub has : {t : Table} {m : Placed} {x : Tree} → Places t m x → Has (m .table) (m .node) x
 has p = record { inside = p .inside; tree = p .tree }

@@ -8,6 +8,7 @@ use native.Mathlib.Numerals.{add-one}
 use lib.ListN.{length, getD}
 use Rattle.calculus.specs.Tree.{Tree, leaf, stem, fork}
 use Rattle.table.specs.Nodes.{Table, first, second, sound, Sound, branches, treeTo, treeAt}
+use Rattle.table.specs.Claims.{Kept, Extends}
 use Rattle.table.proofs.Words.{Unbroken, sound-node}
 
 -- the tree of a node depends on the trees of its branches alone
@@ -46,12 +47,6 @@ module _ (w : List ℕ) (u i : ℕ) (e : sound w u ≡ true) (h : i < u) where
   unfolding branches
   tree-fork p q a b = tree-node w u i e h ∙ rw (a, b, add-one p, add-one q)
 
--- The table z has all the nodes of t as they were, and perhaps more.
-pub record Kept (t z : Table) : Type 0 where
-  pub up : t .used ≤ z .used
-  pub same-length : length (z .words) ≡ length (t .words)
-  pub below : (i : ℕ) → i < t .used * 2 → getD (z .words) i 0 ≡ getD (t .words) i 0
-
 pub kept-refl : (t : Table) → Kept t t
 kept-refl t = record { up = omega arith; same-length = refl; below = λ i h. refl }
 
@@ -62,11 +57,6 @@ kept-trans k l =
       same-length = l .same-length ∙ k .same-length;
       below = λ i h. l .below i (omega (arith, k .up)) ∙ k .below i h;
     }
-
--- "no other table word than those of new nodes changes" (Operations)
-pub record Extends (t z : Table) : Type 0 where
-  pub kept : Kept t z
-  pub beyond : (i : ℕ) → z .used * 2 ≤ i → getD (z .words) i 0 ≡ getD (t .words) i 0
 
 pub extends-refl : (t : Table) → Extends t t
 extends-refl t = record { kept = kept-refl t; beyond = λ i h. refl }

@@ -1,11 +1,12 @@
 -- Worked examples of the definitions that no theorem of this crate pins: the refusals' numbers, the order of the nodes. Assumes nothing.
 use Prim.Native.Nat.{ℕ}
 use mathlib.Core.Path.{_≡_, refl}
+use mathlib.Core.Bool.{true, false}
 use mathlib.Core.List.{List, [], _∷_, map}
 use lib.ListN.{replicate}
 use Rattle.calculus.specs.Tree.{Tree, leaf, stem, fork}
 use Rattle.table.specs.Nodes.{Table, make, lay}
-use Rattle.table.specs.Refusal.{number, refusedNumbers, madeNumbers}
+use Rattle.table.specs.Refusal.{number, refusedNumbers, madeNumbers, clears}
 use Rattle.table.specs.declared.Made.the-variants.{Refused}
 use Rattle.table.specs.declared.Made.the-variants as made
 use Rattle.table.specs.declared.Refusal.the-variants.{Limits, Broken, Node, Text, Rule, Packet, Steps, Nodes, Frames, Out}
@@ -14,6 +15,12 @@ use Rattle.table.specs.declared.Refusal.the-variants.{Limits, Broken, No
 pub numbers : map number (Limits ∷ Broken ∷ Node ∷ Text ∷ Rule ∷ Packet ∷ Steps ∷ Nodes ∷ Frames ∷ Out ∷ []) ≡ 1 ∷ 2 ∷ 3 ∷ 4 ∷ 5 ∷ 6 ∷ 7 ∷ 8 ∷ 9 ∷ 10 ∷ []
 unfolding number
 numbers = refl
+
+-- "Numbers 7 to 10 set to 0 [..]", in the same order
+pub clearing : map clears (Limits ∷ Broken ∷ Node ∷ Text ∷ Rule ∷ Packet ∷ Steps ∷ Nodes ∷ Frames ∷ Out ∷ [])
+    ≡ false ∷ false ∷ false ∷ false ∷ false ∷ false ∷ true ∷ true ∷ true ∷ true ∷ []
+unfolding clears number
+clearing = refl
 
 -- "A refusal returns its number, used as at entry, and 0 for node number, steps and digits."
 pub answers : (madeNumbers 5 (Refused Nodes) ≡ record { refusal = 8; node = 0; used = 5; steps = 0; digits = 0 })

@@ -2,3 +2,4 @@
 pub mod Refusal
 pub mod Nodes
 pub mod Outcome
+pub mod Claims

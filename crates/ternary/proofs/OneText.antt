@@ -9,7 +9,7 @@ use lib.ListN.{length, length-append}
 use lib.Dec.{eqb}
 use borrow.Author.Tests.{eqb-true}
 use Rattle.calculus.specs.Tree.{Tree, leaf, stem, fork, size}
-pub use Rattle.table.proofs.Words.{zero-one}
+use Rattle.table.proofs.Words.{zero-one}
 use Rattle.ternary.specs.Text.{texts}
 use Rattle.ternary.specs.Text.{text, takeLeaf, takeStem, takeFork, takeDigit, pending, single, treeOf}
 

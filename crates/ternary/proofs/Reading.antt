@@ -11,20 +11,22 @@ use lib.Dec.{ltb, leb}
 use borrow.Author.Tests.{ltb-true, ltb-false, leb-true, le-leb}
 use Rattle.calculus.specs.Tree.{Tree, leaf, stem, fork, size}
 use Rattle.table.specs.Nodes.{Table, Placed, capacity, Sound, treeAt, make, lay}
-use Rattle.table.specs.Outcome.{Outcome, whole, frames, zeros, atEntry, unless, placed, laid}
+use Rattle.table.specs.Outcome.{Entered, Outcome, whole, frames, zeros, atEntry, unless, placed, laid}
 use Rattle.table.specs.declared.Refusal.{Refusal}
 use Rattle.table.specs.declared.Made.{Made}
 use Rattle.table.specs.declared.Made.the-variants.{Node, Refused}
-use Rattle.table.proofs.Trees.{Kept, kept-trans, kept-tree}
-use Rattle.table.proofs.Making.{Places, has, stays, stem-of, fork-of, lay-used, lay-node, lay-places}
-use Rattle.table.proofs.Entry.{Entered, entered, enters}
-use Rattle.table.proofs.Laid.{Room, room-case, room-laid, laid-gives, laid-answer, laid-stack}
+use Rattle.table.specs.Claims.{Kept, Places, Room}
+use Rattle.table.proofs.Trees.{kept-trans, kept-tree}
+use Rattle.table.proofs.Making.{has, stays, stem-of, fork-of, lay-used, lay-node, lay-places}
+use Rattle.table.proofs.Entry.{entered, enters}
+use Rattle.table.proofs.Laid.{room-case, room-laid, laid-gives, laid-answer, laid-stack}
 use Rattle.ternary.specs.Text.{text, treeOf, mostPending}
 use Rattle.ternary.specs.Read.{readable, readTree, read}
-use Rattle.ternary.specs.Lacks.{Readable, ReadLacks, ReadHas, ReadCase, Begins}
+use Rattle.ternary.specs.Lacks.{Readable, ReadLacks, ReadHas, ReadCase, Reads, Begins}
 use Rattle.ternary.specs.Lacks.ReadLacks.{at-entry, no-text, no-nodes, no-frames}
 use Rattle.ternary.specs.Lacks.ReadCase.{refuses, lays}
-use Rattle.ternary.proofs.OneText.{zero-one, whole-text, length-text}
+use Rattle.table.proofs.Words.{zero-one}
+use Rattle.ternary.proofs.OneText.{whole-text, length-text}
 
 -- a text that is `Readable` passes the check of 4, and only such a text
 pub readable-some : (l : List ℕ) (t : Tree) → readable l ≡ some t → Readable l t
@@ -95,18 +97,6 @@ module _ (w : List ℕ) (u : ℕ) (s l : List ℕ) where
   -- "Digit p of n becomes node used + n − 1 − p": digit 0 is the node that is given.
   pub read-limits : (t : Tree) → ReadHas w u s l t → read w u s l .answer ≡ Node (u + length l - 1) (u + length l)
   read-limits t h = rw (← text-size (h .readable-as), read-lays t h) (laid-answer w u s t)
-
--- What a node v that Read gave is: it has the tree of the text, old nodes keep their trees, and "success also sets the stack to 0".
-pub record Reads (w : List ℕ) (u : ℕ) (s l : List ℕ) (v u′ : ℕ) : Type 0 where
-  pub entered : Entered true w u s
-  pub tree : Tree
-  pub whole-text : treeOf l ≡ some tree
-  pub had : ReadHas w u s l tree
-  pub laid-is : read w u s l ≡ laid w u s tree
-  pub node-is : v + 1 ≡ u + length l
-  pub used-is : u′ ≡ u + length l
-  pub places : Places (record { words = w; used = u }) (record { table = record { words = read w u s l .table; used = u′ }; node = v }) tree
-  pub stack : read w u s l .stack ≡ zeros s
 
 -- "Read a text into the table": where Read gives a node, all of this holds.
 pub read-gives : (w : List ℕ) (u : ℕ) (s l : List ℕ) (v u′ : ℕ) → read w u s l .answer ≡ Node v u′ → Reads w u s l v u′

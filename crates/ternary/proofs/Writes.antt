@@ -23,7 +23,8 @@ use Rattle.ternary.specs.Held.{NoFrame, OutFull, Spent, enough, no-out, 
 use Rattle.ternary.specs.Lacks.{Readable, Begun, WriteLacks, WriteHas, allWritten, WriteCase, Writes}
 use Rattle.ternary.specs.Lacks.WriteLacks.{at-entry, no-node, no-room}
 use Rattle.ternary.specs.Lacks.WriteCase.{refuses, writes}
-use Rattle.ternary.proofs.OneText.{zero-one, text-read, length-text}
+use Rattle.table.proofs.Words.{zero-one}
+use Rattle.ternary.proofs.OneText.{text-read, length-text}
 use Rattle.ternary.proofs.EachDigit.{digits-spend, spent-digits, digits-left}
 
 -- the checks at entry refuse with 1 or 2

@@ -9,13 +9,14 @@ use lib.ListN.{length, drop}
 use lib.Dec.{leb}
 use Rattle.calculus.specs.Tree.{Tree, size}
 use Rattle.table.specs.Nodes.{capacity, treeAt}
-use Rattle.table.specs.Outcome.{Outcome, whole, wholeOut, frames, zeros, atEntry, laid}
+use Rattle.table.specs.Outcome.{Outcome, Entered, whole, wholeOut, frames, zeros, atEntry, laid}
+use Rattle.table.specs.Claims.{Places}
 use Rattle.table.specs.declared.Refusal.{Refusal}
 use Rattle.table.specs.declared.Refusal.the-variants.{Node, Text, Nodes, Frames}
 use Rattle.table.specs.declared.Made.{Made}
 use Rattle.table.specs.declared.Made.the-variants as made
 use Rattle.ternary.specs.Text.{text, treeOf, mostPending}
-use Rattle.ternary.specs.Read.{readable}
+use Rattle.ternary.specs.Read.{readable, read}
 use Rattle.ternary.specs.Write.{lacks, write}
 use Rattle.ternary.specs.declared.Written.{Written}
 use Rattle.ternary.specs.declared.Written.the-variants as written
@@ -45,6 +46,18 @@ pub record ReadHas (w : List ℕ) (u : ℕ) (s l : List ℕ) (t : Tree) : Type 0
 pub data ReadCase (w : List ℕ) (u : ℕ) (s l : List ℕ) (o : Outcome Made) : Type 0 where
   refuses : {e : Refusal} {s′ : List ℕ} → ReadLacks w u s l e s′ → o ≡ whole (made.Refused e) w s′ → ReadCase w u s l o
   lays : {t : Tree} → ReadHas w u s l t → o ≡ laid w u s t → ReadCase w u s l o
+
+-- What a node v that Read gave is: it has the tree of the text, old nodes keep their trees, and "success also sets the stack to 0".
+pub record Reads (w : List ℕ) (u : ℕ) (s l : List ℕ) (v u′ : ℕ) : Type 0 where
+  pub entered : Entered true w u s
+  pub tree : Tree
+  pub whole-text : treeOf l ≡ some tree
+  pub had : ReadHas w u s l tree
+  pub laid-is : read w u s l ≡ laid w u s tree
+  pub node-is : v + 1 ≡ u + length l
+  pub used-is : u′ ≡ u + length l
+  pub places : Places (record { words = w; used = u }) (record { table = record { words = read w u s l .table; used = u′ }; node = v }) tree
+  pub stack : read w u s l .stack ≡ zeros s
 
 -- the text of node i's tree begins the digits l
 abbrev pub Begins : List ℕ → ℕ → List ℕ → Type 0

@@ -12,22 +12,12 @@ use Rattle.table.specs.Outcome.{Outcome, Entered, whole, zeros, atEntry, unless
 use Rattle.table.specs.declared.Refusal.{Refusal}
 use Rattle.table.specs.declared.Made.{Made}
 use Rattle.table.specs.declared.Made.the-variants.{Node, Refused}
+use Rattle.table.specs.Claims.{Lays, Room}
 use Rattle.table.proofs.Words.{zero-one}
 use Rattle.table.proofs.Entry.{entered, enters}
-use Rattle.table.proofs.Laid.{Room, room-case, room-laid, Lays, laid-gives, laid-answer, laid-stack}
+use Rattle.table.proofs.Laid.{room-case, room-laid, laid-gives, laid-answer, laid-stack}
 use Rattle.translation.specs.Translate.{translateRule, translate}
-use Rattle.translation.specs.Lacks.{Lacks, Has}
-
--- What a Translate that gave node v says: its bytes are a rule, the node has the translated rule's tree, "Nodes lie as Read would lay its text",
--- and old nodes keep their trees.
-pub record Translates (w : List ℕ) (u : ℕ) (s b : List ℕ) (v u′ : ℕ) : Type 0 where
-  pub entry : Entered true w u s
-  pub term : Term
-  pub is-rule : rule b ≡ some term
-  pub had : Has w u s b term
-  pub lays : Lays w u (ruleTree term) (translate w u s b) v u′
-  pub laid-is : translate w u s b ≡ laid w u s (ruleTree term)
-  pub stack : translate w u s b .stack ≡ zeros s
+use Rattle.translation.specs.Lacks.{Lacks, Has, Translates}
 
 -- the two kinds of Translate's outcome o
 data Case (w : List ℕ) (u : ℕ) (s b : List ℕ) (o : Outcome Made) : Type 0 where

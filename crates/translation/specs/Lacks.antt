@@ -9,9 +9,11 @@ use Rattle.calculus.specs.Term.{Term}
 use Rattle.calculus.specs.Bytes.{rule}
 use Rattle.calculus.specs.Abstraction.{ruleTree}
 use Rattle.table.specs.Nodes.{capacity}
-use Rattle.table.specs.Outcome.{Entered, zeros, frames, atEntry}
+use Rattle.table.specs.Outcome.{Entered, zeros, frames, atEntry, laid}
+use Rattle.table.specs.Claims.{Lays}
 use Rattle.table.specs.declared.Refusal.{Refusal}
 use Rattle.table.specs.declared.Refusal.the-variants.{Rule, Nodes, Frames}
+use Rattle.translation.specs.Translate.{translate}
 
 -- The refusal, and the stack as it is left: "5: bytes not a rule. 8: tree larger than the free nodes. 9: fewer than two frames for each node of the
 -- tree." (Operations, Translate), each met only where the checks before it were passed.
@@ -27,3 +29,14 @@ pub record Has (w : List ℕ) (u : ℕ) (s b : List ℕ) (t : Term) : Type 0 whe
   pub is-rule : rule b ≡ some t
   pub nodes-enough : size (ruleTree t) ≤ capacity w - u
   pub frames-enough : 2 * size (ruleTree t) ≤ frames s
+
+-- What a Translate that gave node v says: its bytes are a rule, the node has the translated rule's tree, "Nodes lie as Read would lay its text",
+-- and old nodes keep their trees.
+pub record Translates (w : List ℕ) (u : ℕ) (s b : List ℕ) (v u′ : ℕ) : Type 0 where
+  pub entry : Entered true w u s
+  pub term : Term
+  pub is-rule : rule b ≡ some term
+  pub had : Has w u s b term
+  pub lays : Lays w u (ruleTree term) (translate w u s b) v u′
+  pub laid-is : translate w u s b ≡ laid w u s (ruleTree term)
+  pub stack : translate w u s b .stack ≡ zeros s
