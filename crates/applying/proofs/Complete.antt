@@ -24,7 +24,7 @@ use Rattle.applying.specs.States.{Good}
 use Rattle.applying.specs.Claims.{Gives}
 use Rattle.applying.proofs.States.{tableOf, Later, turn-later, Counted, turn-steps}
 use Rattle.applying.proofs.Leads.{Leads, TurnLeads, leads-same, leads-after, uses-some, and-then}
-use Rattle.applying.proofs.Cases.{Ways, refused, ran, ways, entry-keeps, good-begin}
+use Rattle.applying.proofs.Cases.{Ways, refused, ran, ways, checks-keep, good-begin}
 use Rattle.applying.proofs.Stops.{stop-lacks}
 
 -- a run that leads to the tree o ends there after j steps, or stops
@@ -91,6 +91,6 @@ steps-used-up w u s f n limit e {r} {k} d = go (ways w u s f n limit) (leb k lim
     never (inr (inr x)) = let n : _≡_ {A = ℕ} 0 1 = cc in omega arith
 
     go : Ways w u s f n limit → (b : Bool) → leb k limit ≡ b → limit < k
-    go (refused {e = c} a q) b p = let x : c ≡ Steps = cc in let z : _≡_ {A = ℕ} 0 1 = cc (entry-keeps a, ap clears x) in absurd (omega arith)
+    go (refused {e = c} a q) b p = let x : c ≡ Steps = cc in let z : _≡_ {A = ℕ} 0 1 = cc (checks-keep a, ap clears x) in absurd (omega arith)
     go (ran i h l q) false p = leb-false k limit p
     go (ran i h l q) true p = absurd (never (apply-complete i h l d (leb-true k limit p)))

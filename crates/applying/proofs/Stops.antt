@@ -21,7 +21,7 @@ use Rattle.applying.specs.Machine.{State, Turn, more, done, stop, turn, 
 use Rattle.applying.specs.Apply.{settle, begin, apply}
 use Rattle.applying.specs.Lacks.{Lacks, no-place, all-held, Halts, limit-reached, at-use, ApplyLacks, at-entry, halts}
 use Rattle.applying.proofs.States.{tableOf, turn-by, Later, uses-later, Counted, uses-steps, uses-made}
-use Rattle.applying.proofs.Cases.{Ways, refused, ran, ways, entry-keeps, good-begin}
+use Rattle.applying.proofs.Cases.{Ways, refused, ran, ways, checks-keep, good-begin}
 
 abbrev Stopped : ℕ → State → Turn → Type 0
 Stopped all s (more z) = Unit {0}
@@ -141,5 +141,5 @@ module _ (w : List ℕ) (u : ℕ) (s : List ℕ) (f n limit : ℕ) where
     where
       go : {x y : List ℕ} → ApplyLacks w u s f n limit e x y
           → (x ≡ cond (clears e) (cleared w (u * 2) ((u + made (frames s) limit (begin w u f n)) * 2)) w) × (y ≡ cond (clears e) (zeros s) s)
-      go (at-entry a) = rw (entry-keeps a) (refl, refl)
+      go (at-entry a) = rw (checks-keep a) (refl, refl)
       go (halts i h l a) = rw (halts-clears a) (refl, refl)

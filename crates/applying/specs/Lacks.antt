@@ -1,15 +1,16 @@
 -- What Apply lacked where it is refused, and what it leaves of lent memory then. Assumes nothing: these are definitions.
 use Prim.Native.Nat.{ℕ, _+_, _*_, _≤_, _<_}
 use mathlib.Core.Path.{_≡_}
-use mathlib.Core.Bool.{true, false, _&&_}
+use mathlib.Core.Bool.{true}
 use mathlib.Core.List.{List}
 use mathlib.Core.Option.{none}
 use lib.ListN.{length}
 use lib.Dec.{leb}
-use Rattle.table.specs.Nodes.{capacity, sound, cleared}
-use Rattle.table.specs.Outcome.{frames, zeros, fits, atEntry}
+use Rattle.table.specs.Nodes.{capacity, cleared}
+use Rattle.table.specs.Outcome.{frames, zeros, atEntry}
+use Rattle.table.specs.Claims.{EntryLacks}
 use Rattle.table.specs.declared.Refusal.{Refusal}
-use Rattle.table.specs.declared.Refusal.the-variants.{Limits, Broken, Node, Steps, Nodes, Frames}
+use Rattle.table.specs.declared.Refusal.the-variants.{Node, Steps, Nodes, Frames}
 use Rattle.applying.specs.Machine.{rule, needsNode, needsFrame, State, more, uses, made}
 use Rattle.applying.specs.Apply.{begin}
 
@@ -26,14 +27,13 @@ pub data Halts (all limit : ℕ) (s : State) : Refusal → Type 0 where
   at-use : {z : State} {j : ℕ} {e : Refusal} → j < limit → uses all j s ≡ more z → Lacks all z e → Halts all limit s e
 
 -- What the checks of Apply find: "1, also for a step limit above 1,000,000. 2. 3 for either number." (Operations, Apply)
-pub data EntryLacks (w : List ℕ) (u : ℕ) (s : List ℕ) (f n limit : ℕ) : Refusal → Type 0 where
-  too-long : (leb limit 1000000 && fits w u s) ≡ false → EntryLacks w u s f n limit Limits
-  is-broken : (leb limit 1000000 && fits w u s) ≡ true → sound w u ≡ false → EntryLacks w u s f n limit Broken
-  not-in-use : atEntry (leb limit 1000000) w u s ≡ none → (f < u → n < u → ⊥) → EntryLacks w u s f n limit Node
+pub data ChecksLack (w : List ℕ) (u : ℕ) (s : List ℕ) (f n limit : ℕ) : Refusal → Type 0 where
+  early : {e : Refusal} → EntryLacks (leb limit 1000000) w u s e → ChecksLack w u s f n limit e
+  not-in-use : atEntry (leb limit 1000000) w u s ≡ none → (f < u → n < u → ⊥) → ChecksLack w u s f n limit Node
 
 -- The refusal of Apply, and the table and the stack as it leaves them: the checks leave them as found; then "7, 8, 9 as the rules say" set to 0 "the
 -- words of the nodes made in the call and the whole stack", and no other word.
 pub data ApplyLacks (w : List ℕ) (u : ℕ) (s : List ℕ) (f n limit : ℕ) : Refusal → List ℕ → List ℕ → Type 0 where
-  at-entry : {e : Refusal} → EntryLacks w u s f n limit e → ApplyLacks w u s f n limit e w s
+  at-entry : {e : Refusal} → ChecksLack w u s f n limit e → ApplyLacks w u s f n limit e w s
   halts : {e : Refusal} → atEntry (leb limit 1000000) w u s ≡ none → f < u → n < u → Halts (frames s) limit (begin w u f n) e
       → ApplyLacks w u s f n limit e (cleared w (u * 2) ((u + made (frames s) limit (begin w u f n)) * 2)) (zeros s)

@@ -3,21 +3,22 @@ use Prim.Native.Nat.{ℕ, _-_}
 use mathlib.Core.Path.{_≡_, refl, sym, subst}
 use mathlib.Core.Bool.{Bool, true, false, cond, _&&_}
 use mathlib.Core.List.{List, []}
-use mathlib.Core.Option.{none, some}
+use mathlib.Core.Option.{Option, none, some}
 use native.Mathlib.Omega.{arith}
 use lib.Dec.{ltb}
 use borrow.Author.Tests.{ltb-true, lt-ltb}
-use Rattle.table.specs.Nodes.{capacity, sound}
-use Rattle.table.specs.Outcome.{Outcome, whole, placed, fits, atEntry, unless}
+use Rattle.table.specs.Nodes.{capacity}
+use Rattle.table.specs.Outcome.{Outcome, whole, placed, atEntry, unless}
 use Rattle.table.specs.declared.Refusal.{Refusal}
-use Rattle.table.specs.declared.Refusal.the-variants.{Limits, Broken, Nodes}
+use Rattle.table.specs.declared.Refusal.the-variants.{Nodes}
 use Rattle.table.specs.declared.Refusal.the-variants as refusal
 use Rattle.table.specs.declared.Made.{Made}
 use Rattle.table.specs.declared.Made.the-variants.{Refused}
 use Rattle.table.proofs.Words.{and-left, and-right}
+use Rattle.table.proofs.Entry.{entry-lacks}
 use Rattle.table.proofs.Laid.{refused-made}
 use Rattle.label.specs.Label.{nodes, label}
-use Rattle.label.specs.Claims.{LabelLacks, too-long, is-broken, not-in-use, no-nodes}
+use Rattle.label.specs.Claims.{LabelLacks, at-entry, not-in-use, no-nodes}
 
 module _ (w : List ℕ) (u f t : ℕ) (e : Refusal) where
   abbrev Says : Outcome Made → Type 0
@@ -28,8 +29,8 @@ module _ (w : List ℕ) (u f t : ℕ) (e : Refusal) where
 
   -- "1, 2, then 3 for either number. 8: fewer than seven free nodes.": each comes only on its condition, and leaves every word as found.
   pub label-lacks : label w u f t .answer ≡ Refused e → LabelLacks w u f t e (label w u f t .table)
-  unfolding label atEntry placed
-  label-lacks = go (fits w u []) (sound w u) refl refl
+  unfolding label placed
+  label-lacks = go (atEntry true w u []) refl
     where
       after : Outcome Made
       after = placed (nodes (record { words = w; used = u }) f t) []
@@ -41,19 +42,17 @@ module _ (w : List ℕ) (u f t : ℕ) (e : Refusal) where
           says Nodes (no-nodes i (ltb-true f u (and-left (ltb f u) (ltb t u) h)) (ltb-true t u (and-right (ltb f u) (ltb t u) h)) (ltb-true (capacity w - u) 7 k))
       room i true false h k = λ q. refused-made (sym q)
 
-      go : (x y : Bool) → fits w u [] ≡ x → sound w u ≡ y
-          → Says (unless (cond x (cond y none (some Broken)) (some Limits)) (λ c. whole (Refused c) w [])
+      go : (a : Option Refusal) → atEntry true w u [] ≡ a
+          → Says (unless a (λ c. whole (Refused c) w [])
           (cond (ltb f u && ltb t u) (cond (ltb (capacity w - u) 7) (whole (Refused Nodes) w []) after) (whole (Refused refusal.Node) w [])))
-      go false y p q = says Limits (too-long p)
-      go true false p q = says Broken (is-broken p q)
-      go true true p q = room (rw (p, q)) (ltb f u && ltb t u) (ltb (capacity w - u) 7) refl refl
+      go (some c) p = says c (at-entry (entry-lacks true w u [] p))
+      go none p = room p (ltb f u && ltb t u) (ltb (capacity w - u) 7) refl refl
 
   -- "Read, Translate and Label meet 8 and 9 before they make a node": no refusal of Label changes a table word.
   pub label-refused : label w u f t .answer ≡ Refused e → label w u f t .table ≡ w
   label-refused q = go (label-lacks q)
     where
       go : {c : Refusal} {x : List ℕ} → LabelLacks w u f t c x → x ≡ w
-      go (too-long h) = refl
-      go (is-broken h k) = refl
+      go (at-entry h) = refl
       go (not-in-use h k) = refl
       go (no-nodes h k l m) = refl

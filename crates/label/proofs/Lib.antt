@@ -3,3 +3,4 @@ pub mod Labelled
 pub mod Labels
 pub mod Lacks
 pub mod Ways
+pub mod Vectors

@@ -22,7 +22,7 @@ use Rattle.table.specs.declared.Made.the-variants as made
 use Rattle.table.specs.Claims.{Extends, Has, Kept}
 use Rattle.table.proofs.Trees.{kept-refl, kept-trans, extends-refl, extends-trans}
 use Rattle.table.proofs.Making.{has, stays}
-use Rattle.table.proofs.Entry.{enters}
+use Rattle.table.proofs.Entry.{enters, lacks-entry}
 use Rattle.ternary.specs.Text.{mostPending}
 use Rattle.ternary.specs.Read.{read, readable}
 use Rattle.ternary.specs.Write as write
@@ -131,7 +131,7 @@ module _ {w s o : List ℕ} (fit : Fit w s o) (p : Packet) (t : Term) (args : Li
       made-all = omega (arith, a .all-made)
 
       lacked : {e : Refusal} {y′ : List ℕ} → WriteLacks (z .words) (z .used) y v o e y′ → (length y′ ≡ length s) × Stops w s o p t args e (z .used)
-      lacked (WriteLacks.at-entry q) = zero-one (cc (enters (enter st (le-leb _ _ (fit .out)))))
+      lacked (WriteLacks.at-entry q) = zero-one (cc (enters (enter st (le-leb _ _ (fit .out))), lacks-entry q))
       lacked (WriteLacks.no-node f h) = absurd (omega (arith, a .root .inside))
       lacked (WriteLacks.no-room f h x) = (
         zeros-length _ y refl ∙ st .stack,
@@ -244,7 +244,7 @@ module _ {w s o : List ℕ} (fit : Fit w s o) (p : Packet) (t : Term) (args : Li
       same = ap (λ (n : ℕ). n / 2) (st .extends .kept .same-length)
 
       lacked : {e : Refusal} {y′ : List ℕ} → ReadLacks (z .words) (z .used) y l e y′ → (length y′ ≡ length s) × Stops w s o p t args e (z .used)
-      lacked (ReadLacks.at-entry q) = zero-one (cc (enters (enter st {within = true} refl)))
+      lacked (ReadLacks.at-entry q) = zero-one (cc (enters (enter st {within = true} refl), lacks-entry q))
       lacked (ReadLacks.no-text f h) = zero-one (cc)
       lacked (ReadLacks.no-nodes f a h) = (zeros-length _ y refl ∙ st .stack, stop Nodes (z .used) (no-nodes (omega arith)))
       lacked (ReadLacks.no-frames f a h k) = (zeros-length _ y refl ∙ st .stack, stop Frames (z .used) (no-frames (omega arith) (omega (arith, st .stack))))
@@ -289,7 +289,7 @@ module _ {w s o : List ℕ} (fit : Fit w s o) (p : Packet) (t : Term) (args : Li
       st = record { fine = record { short = fit .table; within = omega arith; unbroken = refl }; extends = extends-refl empty; stack = refl }
 
       lacked : {e : Refusal} {y : List ℕ} → Lacks w 0 s (p .rule) e y → (length y ≡ length s) × Stops w s o p t args e 0
-      lacked (Lacks.at-entry q) = zero-one (cc (enters (enter st {within = true} refl)))
+      lacked (Lacks.at-entry q) = zero-one (cc (enters (enter st {within = true} refl), lacks-entry q))
       lacked (Lacks.no-rule f h) = zero-one (cc)
       lacked (Lacks.no-nodes f {t = t′} a h) = let b : t′ ≡ t = cc in (zeros-length _ s refl, translate-nodes (rw (← b) (omega arith)))
       lacked (Lacks.no-frames f {t = t′} a h k) =

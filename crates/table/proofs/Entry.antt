@@ -12,8 +12,10 @@ use Rattle.table.specs.Nodes.{Table, capacity, sound, Sound, cleared}
 use Rattle.table.specs.Outcome.{Outcome, Entered, fits, atEntry, unless, stopped, zeros}
 use Rattle.table.specs.declared.Refusal.{Refusal}
 use Rattle.table.specs.declared.Refusal.the-variants.{Limits, Broken}
-use Rattle.table.specs.Claims.{Kept, Extends, Undone}
-use Rattle.table.proofs.Words.{and-left, and-right, cleared-below, cleared-inside, cleared-beyond, length-cleared}
+use Rattle.table.specs.Claims.{Kept, Extends, Undone, EntryLacks}
+use Rattle.table.specs.Claims.EntryLacks.{too-long, is-broken}
+use Rattle.table.specs.Refusal.{number, clears}
+use Rattle.table.proofs.Words.{zero-one, and-left, and-right, cleared-below, cleared-inside, cleared-beyond, length-cleared}
 
 pub entered : (within : Bool) (w : List ℕ) (u : ℕ) (s : List ℕ) → atEntry within w u s ≡ none → Entered within w u s
 unfolding atEntry fits
@@ -57,14 +59,25 @@ stopped-kept {t} {z} k h =
       below = λ i l. cleared-below (z .words) (t .used * 2) (z .used * 2) i (omega (arith, k .up)) l ∙ k .below i l;
     }
 
--- 1 comes before 2, and each on its condition
-pub entry-limits : (within : Bool) (w : List ℕ) (u : ℕ) (s : List ℕ) → (within && fits w u s) ≡ false → atEntry within w u s ≡ some Limits
+-- 1 comes before 2, each exactly on its condition, and both leave memory as found.
+pub entry-lacks : (within : Bool) (w : List ℕ) (u : ℕ) (s : List ℕ) {e : Refusal} → atEntry within w u s ≡ some e → EntryLacks within w u s e
 unfolding atEntry
-entry-limits within w u s e = rw e
+entry-lacks within w u s {e} = go (within && fits w u s) (sound w u) refl refl
+  where
+    go : (a b : Bool) → (within && fits w u s) ≡ a → sound w u ≡ b → cond a (cond b none (some Broken)) (some Limits) ≡ some e → EntryLacks within w u s e
+    go true true p q r = zero-one (cc)
+    go true false p q r = let c : Broken ≡ e = cc in rw (← c) (is-broken p q)
+    go false b p q r = let c : Limits ≡ e = cc in rw (← c) (too-long p)
 
-pub entry-broken : (within : Bool) (w : List ℕ) (u : ℕ) (s : List ℕ) → (within && fits w u s) ≡ true → sound w u ≡ false → atEntry within w u s ≡ some Broken
+pub lacks-entry : {within : Bool} {w : List ℕ} {u : ℕ} {s : List ℕ} {e : Refusal} → EntryLacks within w u s e → atEntry within w u s ≡ some e
 unfolding atEntry
-entry-broken within w u s e h = rw (e, h)
+lacks-entry (too-long h) = rw h
+lacks-entry (is-broken h k) = rw (h, k)
+
+pub entry-keeps : {within : Bool} {w : List ℕ} {u : ℕ} {s : List ℕ} {e : Refusal} → EntryLacks within w u s e → clears e ≡ false
+unfolding clears number
+entry-keeps (too-long h) = refl
+entry-keeps (is-broken h k) = refl
 
 pub stopped-undone : {A : Type 0} {t z : Table} → Extends t z → z .used ≤ capacity (z .words) → (a : A) (s : List ℕ) → Undone t z (stopped a z (t .used) s) s
 unfolding stopped

@@ -1,12 +1,14 @@
--- What theorems claim of a table that an operation changed, and of a tree that is laid out. Assumes nothing: these are definitions.
+-- What theorems claim of a table that an operation changed, of a tree that is laid out, and of the checks at entry. Assumes nothing: these are definitions.
 use Prim.Native.Nat.{ℕ, _+_, _-_, _*_, _≤_, _<_}
 use mathlib.Core.Path.{_≡_}
+use mathlib.Core.Bool.{Bool, true, false, _&&_}
 use mathlib.Core.List.{List}
 use lib.ListN.{length, getD}
 use Rattle.calculus.specs.Tree.{Tree, size}
-use Rattle.table.specs.Nodes.{Table, Placed, capacity, Sound, treeAt}
-use Rattle.table.specs.Outcome.{Outcome, whole, frames, zeros, laid}
-use Rattle.table.specs.declared.Refusal.the-variants.{Nodes, Frames}
+use Rattle.table.specs.Nodes.{Table, Placed, capacity, sound, Sound, treeAt}
+use Rattle.table.specs.Outcome.{Outcome, whole, frames, zeros, fits, laid}
+use Rattle.table.specs.declared.Refusal.{Refusal}
+use Rattle.table.specs.declared.Refusal.the-variants.{Limits, Broken, Nodes, Frames}
 use Rattle.table.specs.declared.Made.{Made}
 use Rattle.table.specs.declared.Made.the-variants.{Refused}
 
@@ -54,3 +56,9 @@ pub record Undone {A : Type 0} (t z : Table) (o : Outcome A) (s : List ℕ) : Ty
   pub below : (i : ℕ) → i < t .used * 2 → getD (o .table) i 0 ≡ getD (t .words) i 0
   pub beyond : (i : ℕ) → z .used * 2 ≤ i → getD (o .table) i 0 ≡ getD (t .words) i 0
   pub stack : o .stack ≡ zeros s
+
+-- "1: table or stack too long, or used above capacity. 2: a broken node." (Operations): what the checks at entry find where they refuse. `within` says
+-- whether the operation's own limits are kept.
+pub data EntryLacks (within : Bool) (w : List ℕ) (u : ℕ) (s : List ℕ) : Refusal → Type 0 where
+  too-long : (within && fits w u s) ≡ false → EntryLacks within w u s Limits
+  is-broken : (within && fits w u s) ≡ true → sound w u ≡ false → EntryLacks within w u s Broken

@@ -18,7 +18,7 @@ use Rattle.table.specs.declared.Made.the-variants.{Node, Refused}
 use Rattle.table.specs.Claims.{Kept, Places, Room}
 use Rattle.table.proofs.Trees.{kept-trans, kept-tree}
 use Rattle.table.proofs.Making.{has, stays, stem-of, fork-of, lay-used, lay-node, lay-places}
-use Rattle.table.proofs.Entry.{entered, enters}
+use Rattle.table.proofs.Entry.{entered, enters, entry-lacks}
 use Rattle.table.proofs.Laid.{room-case, room-laid, laid-gives, laid-answer, laid-stack}
 use Rattle.ternary.specs.Text.{text, treeOf, mostPending}
 use Rattle.ternary.specs.Read.{readable, readTree, read}
@@ -52,7 +52,7 @@ module _ (w : List ℕ) (u : ℕ) (s l : List ℕ) where
     where
       go : (a : Option Refusal) (r : Option Tree) → atEntry true w u s ≡ a → readable l ≡ r
           → ReadCase w u s l (unless a (λ e. whole (Refused e) w s) (readTree w u s l r))
-      go (some e) r p q = refuses (at-entry p) refl
+      go (some e) r p q = refuses (at-entry (entry-lacks true w u s p)) refl
       go none none p q = refuses (no-text p q) refl
       go none (some t) p q = room (room-case w u s (length l) (mostPending l) t)
         where

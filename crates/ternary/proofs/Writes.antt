@@ -12,9 +12,10 @@ use borrow.Author.Tests.{ltb-true, ltb-false, leb-true, lt-ltb, le-ltb}
 use Rattle.calculus.specs.Tree.{Tree, size}
 use Rattle.table.specs.Nodes.{sound, treeAt}
 use Rattle.table.specs.Outcome.{Outcome, Entered, wholeOut, fits, frames, zeros, atEntry, unless}
+use Rattle.table.specs.Refusal.{number, clears}
 use Rattle.table.specs.declared.Refusal.{Refusal}
-use Rattle.table.specs.declared.Refusal.the-variants.{Limits, Broken, Node, Frames, Out}
-use Rattle.table.proofs.Entry.{entered, enters}
+use Rattle.table.specs.declared.Refusal.the-variants.{Node, Frames, Out}
+use Rattle.table.proofs.Entry.{entered, enters, entry-lacks, lacks-entry, entry-keeps}
 use Rattle.ternary.specs.Text.{text}
 use Rattle.ternary.specs.Write.{Room, left, lacks, digits, written, writeTree, write}
 use Rattle.ternary.specs.declared.Written.{Written}
@@ -27,16 +28,6 @@ use Rattle.table.proofs.Words.{zero-one}
 use Rattle.ternary.proofs.OneText.{text-read, length-text}
 use Rattle.ternary.proofs.EachDigit.{digits-spend, spent-digits, digits-left}
 
--- the checks at entry refuse with 1 or 2
-entry-early : {A : Type 0} (own : Bool) (w : List ℕ) (u : ℕ) (s : List ℕ) {e : Refusal} → atEntry own w u s ≡ some e → (e ≡ Limits → A) → (e ≡ Broken → A) → A
-unfolding atEntry
-entry-early {A} own w u s {e} q a b = go (own && fits w u s) (sound w u) q
-  where
-    go : (x y : Bool) → cond x (cond y none (some Broken)) (some Limits) ≡ some e → A
-    go true true p = zero-one (cc)
-    go true false p = b (cc)
-    go false y p = a (cc)
-
 module _ (w : List ℕ) (u : ℕ) (s : List ℕ) (i : ℕ) (o : List ℕ) where
   -- Write's outcome is of one kind or the other.
   pub write-case : WriteCase w u s i o (write w u s i o)
@@ -48,7 +39,7 @@ module _ (w : List ℕ) (u : ℕ) (s : List ℕ) (i : ℕ) (o : List ℕ) where
 
       go : (a : Option Refusal) (b : Bool) → atEntry (leb (length o) 65535) w u s ≡ a → ltb i u ≡ b
           → WriteCase w u s i o (unless a (λ e. wholeOut (Refused e) w s o) (cond b (written w s o t (digits (frames s) 0 t (length o))) (wholeOut (Refused Node) w s o)))
-      go (some e) b p q = refuses (at-entry p) refl
+      go (some e) b p q = refuses (at-entry (entry-lacks (leb (length o) 65535) w u s p)) refl
       go none false p q = refuses (no-node p (ltb-false i u q)) refl
       go none true p q = room (digits-spend (frames s) 0 t (length o))
         where
@@ -80,7 +71,7 @@ module _ (w : List ℕ) (u : ℕ) (s : List ℕ) (i : ℕ) (o : List ℕ) where
   -- The other way: on each condition its refusal comes, with the table and the out bytes as found.
   pub write-stops : {e : Refusal} {s′ : List ℕ} → WriteLacks w u s i o e s′ → write w u s i o ≡ wholeOut (Refused e) w s′ o
   unfolding write writeTree written
-  write-stops (at-entry p) = rw p
+  write-stops (at-entry p) = rw (lacks-entry p)
   write-stops (no-node p h) = rw (p, le-ltb i u h)
   write-stops {e} (no-room p h x) = rw (p, lt-ltb i u h, spent-digits (frames s) 0 (treeAt w i) (length o) (lacks e) x)
 
@@ -88,20 +79,22 @@ module _ (w : List ℕ) (u : ℕ) (s : List ℕ) (i : ℕ) (o : List ℕ) where
   -- the table and the out bytes as found and the stack set to 0.
   pub write-out : (write w u s i o .answer ≡ Refused Out → Begun w u s i o × OutFull (frames s) 0 (treeAt w i) (length o))
       × (Begun w u s i o → OutFull (frames s) 0 (treeAt w i) (length o) → write w u s i o ≡ wholeOut (Refused Out) w (zeros s) o)
+  unfolding clears number
   write-out = (λ q. go (write-lacks Out q), λ b h. write-stops (no-room (b .0) (b .1) (no-out h)))
     where
       go : {s′ : List ℕ} → WriteLacks w u s i o Out s′ → Begun w u s i o × OutFull (frames s) 0 (treeAt w i) (length o)
-      go (at-entry p) = entry-early (leb (length o) 65535) w u s p (λ a. zero-one (cc)) (λ a. zero-one (cc))
+      go (at-entry p) = zero-one (cc (entry-keeps p))
       go (no-room p h (no-out x)) = ((p, h), x)
 
   -- "9 if the digit is 2 and every frame is held by a fork whose second branch is not begun": only where the digits are begun and the first that cannot be
   -- written is such a 2, with a byte left for it; and there always, with the same memory.
   pub write-frames : (write w u s i o .answer ≡ Refused Frames → Begun w u s i o × NoFrame (frames s) 0 (treeAt w i) (length o))
       × (Begun w u s i o → NoFrame (frames s) 0 (treeAt w i) (length o) → write w u s i o ≡ wholeOut (Refused Frames) w (zeros s) o)
+  unfolding clears number
   write-frames = (λ q. go (write-lacks Frames q), λ b h. write-stops (no-room (b .0) (b .1) (no-frame h)))
     where
       go : {s′ : List ℕ} → WriteLacks w u s i o Frames s′ → Begun w u s i o × NoFrame (frames s) 0 (treeAt w i) (length o)
-      go (at-entry p) = entry-early (leb (length o) 65535) w u s p (λ a. zero-one (cc)) (λ a. zero-one (cc))
+      go (at-entry p) = zero-one (cc (entry-keeps p))
       go (no-room p h (no-frame x)) = ((p, h), x)
 
   -- on an entered table, with a node in use, Write is what its inner definition says

@@ -10,7 +10,7 @@ use lib.Dec.{leb}
 use Rattle.calculus.specs.Tree.{Tree, size}
 use Rattle.table.specs.Nodes.{capacity, treeAt}
 use Rattle.table.specs.Outcome.{Outcome, Entered, whole, wholeOut, frames, zeros, atEntry, laid}
-use Rattle.table.specs.Claims.{Places}
+use Rattle.table.specs.Claims.{Places, EntryLacks}
 use Rattle.table.specs.declared.Refusal.{Refusal}
 use Rattle.table.specs.declared.Refusal.the-variants.{Node, Text, Nodes, Frames}
 use Rattle.table.specs.declared.Made.{Made}
@@ -30,7 +30,7 @@ pub record Readable (l : List ℕ) (t : Tree) : Type 0 where
 -- What Read lacked where it refuses with e and leaves the stack s′: "4: text not one whole tree [..] 8: more digits than free nodes. 9: fewer frames
 -- than the most trees pending", each met only where the checks before it were passed.
 pub data ReadLacks (w : List ℕ) (u : ℕ) (s l : List ℕ) : Refusal → List ℕ → Type 0 where
-  at-entry : {e : Refusal} → atEntry true w u s ≡ some e → ReadLacks w u s l e s
+  at-entry : {e : Refusal} → EntryLacks true w u s e → ReadLacks w u s l e s
   no-text : atEntry true w u s ≡ none → readable l ≡ none → ReadLacks w u s l Text s
   no-nodes : atEntry true w u s ≡ none → {t : Tree} → Readable l t → capacity w - u < length l → ReadLacks w u s l Nodes (zeros s)
   no-frames : atEntry true w u s ≡ none → {t : Tree} → Readable l t → length l ≤ capacity w - u → frames s < mostPending l → ReadLacks w u s l Frames (zeros s)
@@ -70,7 +70,7 @@ Begun w u s i o = (atEntry (leb (length o) 65535) w u s ≡ none) × (i < u)
 -- What Write lacked where it refuses with e and leaves the stack s′: "3: node number not below used. Then digit by digit: 10 if out is full; 9 if
 -- the digit is 2 and every frame is held", each met only where the checks before it were passed.
 pub data WriteLacks (w : List ℕ) (u : ℕ) (s : List ℕ) (i : ℕ) (o : List ℕ) : Refusal → List ℕ → Type 0 where
-  at-entry : {e : Refusal} → atEntry (leb (length o) 65535) w u s ≡ some e → WriteLacks w u s i o e s
+  at-entry : {e : Refusal} → EntryLacks (leb (length o) 65535) w u s e → WriteLacks w u s i o e s
   no-node : atEntry (leb (length o) 65535) w u s ≡ none → u ≤ i → WriteLacks w u s i o Node s
   no-room : {e : Refusal} → atEntry (leb (length o) 65535) w u s ≡ none → i < u → Spent (frames s) 0 (treeAt w i) (length o) (lacks e) → WriteLacks w u s i o e (zeros s)
 

@@ -14,7 +14,7 @@ use Rattle.table.specs.declared.Made.{Made}
 use Rattle.table.specs.declared.Made.the-variants.{Node, Refused}
 use Rattle.table.specs.Claims.{Lays, Room}
 use Rattle.table.proofs.Words.{zero-one}
-use Rattle.table.proofs.Entry.{entered, enters}
+use Rattle.table.proofs.Entry.{entered, enters, entry-lacks}
 use Rattle.table.proofs.Laid.{room-case, room-laid, laid-gives, laid-answer, laid-stack}
 use Rattle.translation.specs.Translate.{translateRule, translate}
 use Rattle.translation.specs.Lacks.{Lacks, Has, Translates}
@@ -31,7 +31,7 @@ module _ (w : List ℕ) (u : ℕ) (s b : List ℕ) where
     where
       go : (a : Option Refusal) (r : Option Term) → atEntry true w u s ≡ a → rule b ≡ r
           → Case w u s b (unless a (λ e. whole (Refused e) w s) (translateRule w u s r))
-      go (some e) r p q = refuses (Lacks.at-entry p) refl
+      go (some e) r p q = refuses (Lacks.at-entry (entry-lacks true w u s p)) refl
       go none none p q = refuses (Lacks.no-rule (entered true w u s p) q) refl
       go none (some t) p q = room (room-case w u s (size (ruleTree t)) (2 * size (ruleTree t)) (ruleTree t))
         where

@@ -9,8 +9,8 @@ use Rattle.calculus.specs.Term.{Term}
 use Rattle.calculus.specs.Bytes.{rule}
 use Rattle.calculus.specs.Abstraction.{ruleTree}
 use Rattle.table.specs.Nodes.{capacity}
-use Rattle.table.specs.Outcome.{Entered, zeros, frames, atEntry, laid}
-use Rattle.table.specs.Claims.{Lays}
+use Rattle.table.specs.Outcome.{Entered, zeros, frames, laid}
+use Rattle.table.specs.Claims.{Lays, EntryLacks}
 use Rattle.table.specs.declared.Refusal.{Refusal}
 use Rattle.table.specs.declared.Refusal.the-variants.{Rule, Nodes, Frames}
 use Rattle.translation.specs.Translate.{translate}
@@ -18,7 +18,7 @@ use Rattle.translation.specs.Translate.{translate}
 -- The refusal, and the stack as it is left: "5: bytes not a rule. 8: tree larger than the free nodes. 9: fewer than two frames for each node of the
 -- tree." (Operations, Translate), each met only where the checks before it were passed.
 pub data Lacks (w : List ℕ) (u : ℕ) (s b : List ℕ) : Refusal → List ℕ → Type 0 where
-  at-entry : {e : Refusal} → atEntry true w u s ≡ some e → Lacks w u s b e s
+  at-entry : {e : Refusal} → EntryLacks true w u s e → Lacks w u s b e s
   no-rule : Entered true w u s → rule b ≡ none → Lacks w u s b Rule s
   no-nodes : Entered true w u s → {t : Term} → rule b ≡ some t → capacity w - u < size (ruleTree t) → Lacks w u s b Nodes (zeros s)
   no-frames : Entered true w u s → {t : Term} → rule b ≡ some t → size (ruleTree t) ≤ capacity w - u → frames s < 2 * size (ruleTree t) → Lacks w u s b Frames (zeros s)
