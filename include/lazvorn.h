@@ -104,7 +104,10 @@ void lazvorn_label(
     size_t label,      /* the label's node */
     size_t answer[5]); /* the five numbers */
 
-/* Runs a packet with the table taken as empty. Gives used, steps and digits. Refusals 1, 4 to 10. */
+/*
+ * Runs a packet with the table taken as empty. Gives used, steps and digits. Refusals 1, 4 to 10.
+ * A packet that names no step limit (tag 3) has 100,000 steps.
+ */
 void lazvorn_run(
     uint32_t *table,       /* the table's words */
     size_t table_len,      /* how many words */

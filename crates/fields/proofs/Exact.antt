@@ -140,7 +140,8 @@ packet-good l h = go (leb (length l) 16384) refl (fields (length l) l) (fields-g
         first (leb-true _ _ e) f fs g (eqb (f .tag) 1) refl (afterRule (f .value) 8 fs) (after-good (f .value) 8 fs)
     go false e P g = tt
 
-packet-found : {l : List ℕ} {p : Packet} → IsPacket l p → packet l ≡ some p
+-- bytes that are a packet are read as it
+pub packet-found : {l : List ℕ} {p : Packet} → IsPacket l p → packet l ≡ some p
 unfolding packet fromFields
 packet-found {l} {p} h =
     let x = after-found (p .rule) 8 (p .arguments) (h .limit-is) (h .few) in

@@ -1,3 +1,4 @@
 -- The theorems of the packet; other crates cite them.
 pub mod Exact
+pub mod Limits
 pub mod Vectors

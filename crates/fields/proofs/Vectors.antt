@@ -35,17 +35,17 @@ refused l = record { input = l; outcome = none }
 
 pub rows : List Row
 rows =
-    -- "Standard input in hexadecimal 01 0006 020103000300 02 0001 30"; "Without it the limit is 10,000."
+    -- "Standard input in hexadecimal 01 0006 020103000300 02 0001 30"; "Without tag 3 the limit becomes 100,000." ([2])
     record {
       input = 0x01 ∷ 0x00 ∷ 0x06 ∷ 0x02 ∷ 0x01 ∷ 0x03 ∷ 0x00 ∷ 0x03 ∷ 0x00 ∷ 0x02 ∷ 0x00 ∷ 0x01 ∷ 0x30 ∷ [];
-      outcome = some (record { rule = 0x02 ∷ 0x01 ∷ 0x03 ∷ 0x00 ∷ 0x03 ∷ 0x00 ∷ []; arguments = zeroText ∷ []; limit = 10000 });
+      outcome = some (record { rule = 0x02 ∷ 0x01 ∷ 0x03 ∷ 0x00 ∷ 0x03 ∷ 0x00 ∷ []; arguments = zeroText ∷ []; limit = 100000 });
     }
     -- "then none to eight of tag 2": none
-    ∷ record { input = ruleField; outcome = accepted [] 10000 }
+    ∷ record { input = ruleField; outcome = accepted [] 100000 }
     -- eight
     ∷ record {
       input = ruleField ++ eight;
-      outcome = accepted (zeroText ∷ zeroText ∷ zeroText ∷ zeroText ∷ zeroText ∷ zeroText ∷ zeroText ∷ zeroText ∷ []) 10000;
+      outcome = accepted (zeroText ∷ zeroText ∷ zeroText ∷ zeroText ∷ zeroText ∷ zeroText ∷ zeroText ∷ zeroText ∷ []) 100000;
     }
     -- "nine arguments are 6"
     ∷ refused (ruleField ++ eight ++ argument)
@@ -53,6 +53,11 @@ rows =
     ∷ record {
       input = ruleField ++ argument ++ (0x02 ∷ 0x00 ∷ 0x02 ∷ 0x31 ∷ 0x30 ∷ []) ++ greatest;
       outcome = accepted (zeroText ∷ (0x31 ∷ 0x30 ∷ []) ∷ []) 1000000;
+    }
+    -- "it now sends tag 3 with 10,000" ([2])
+    ∷ record {
+      input = ruleField ++ argument ++ (0x03 ∷ 0x00 ∷ 0x04 ∷ 0x00 ∷ 0x00 ∷ 0x27 ∷ 0x10 ∷ []);
+      outcome = accepted (zeroText ∷ []) 10000;
     }
     -- 1,000,001
     ∷ refused (ruleField ++ argument ++ (0x03 ∷ 0x00 ∷ 0x04 ∷ 0x00 ∷ 0x0F ∷ 0x42 ∷ 0x41 ∷ []))
@@ -77,12 +82,12 @@ rows =
     -- 16,384 bytes, and "more than 16,384 bytes, is 6": a rule of 16,381 bytes (high byte 3F, low byte FD), and one of 16,382
     ∷ record {
       input = 0x01 ∷ 0x3F ∷ 0xFD ∷ replicate 16381 0;
-      outcome = some (record { rule = replicate 16381 0; arguments = []; limit = 10000 });
+      outcome = some (record { rule = replicate 16381 0; arguments = []; limit = 100000 });
     }
     ∷ refused (0x01 ∷ 0x3F ∷ 0xFE ∷ replicate 16382 0)
     ∷ []
 
--- "Without it the limit is 10,000. Anything else, or more than 16,384 bytes, is 6." (The packet) What is read of each row's input is its outcome.
+-- "Anything else, or more than 16,384 bytes, is 6." (The packet) What is read of each row's input is its outcome.
 pub vectors : map (λ (r : Row). packet (r .input)) rows ≡ map (λ (r : Row). r .outcome) rows
 unfolding rows before fields highFirst withArgument lastField afterRule fromFields packet
 vectors = refl

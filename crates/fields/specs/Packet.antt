@@ -34,9 +34,9 @@ pub record Packet : Type 0 where
   pub arguments : List (List ℕ)
   pub limit : ℕ
 
--- "Without it the limit is 10,000."
+-- "Without tag 3 the limit becomes 100,000." ([2])
 abbrev pub defaultLimit : ℕ
-defaultLimit = 10000
+defaultLimit = 100000
 
 -- bytes as a number, high first
 unfoldable pub highFirst : ℕ → List ℕ → ℕ

@@ -10,7 +10,7 @@ use lib.ListN.{length, getD, take, drop, length-drop}
 use lib.Seq.{length-take-le, drop-cons}
 use lib.Dec.{leb, eqb}
 use borrow.Author.Tests.{le-leb, lt-leb, leb-true, leb-false, eq-eqb, ne-eqb}
-use Rattle.fields.specs.Packet.{Field, before, fields, Packet, highFirst, withArgument, lastField, afterRule, fromFields, packet}
+use Rattle.fields.specs.Packet.{Field, before, fields, Packet, defaultLimit, highFirst, withArgument, lastField, afterRule, fromFields, packet}
 use Rattle.packet.specs.Code.{sizeAt, endAt, valueAt, foundAt, fieldsFrom, lastOf, afterFields, formOf, counted}
 use Rattle.packet.specs.declared.Form.{Form}
 use Rattle.packet.specs.declared.Form.the-variants.{Whole, Broken}
@@ -138,11 +138,11 @@ module _ (l : List ℕ) (at k : ℕ) (q : List ℕ) where
   unfolding afterFields formOf counted
   after-broken j h n = rw (fields-broken l at h n)
 
-  pub after-end : (j : ℕ) → length l ≤ at → Whole k 10000 ≡ counted k (formOf (afterFields q j (fieldsFrom l at)))
+  pub after-end : (j : ℕ) → length l ≤ at → Whole k defaultLimit ≡ counted k (formOf (afterFields q j (fieldsFrom l at)))
   unfolding afterFields afterRule formOf counted
   after-end j h = let e : k + 0 ≡ k = omega arith in rw (fields-end l at h) (go j e)
     where
-      go : (j : ℕ) → k + 0 ≡ k → Whole k 10000 ≡ counted k (formOf (afterRule q j []))
+      go : (j : ℕ) → k + 0 ≡ k → Whole k defaultLimit ≡ counted k (formOf (afterRule q j []))
       go zero e = rw e
       go (suc j) e = rw e
 

@@ -122,7 +122,7 @@ fn after_rule(packet: &[u8], from: usize) -> Form
     }
     Form::Whole {
         arguments: count,
-        limit: 10000,
+        limit: 100000,
     }
 }
 

@@ -1,8 +1,8 @@
--- The step limit of a packet is one that Apply takes. Assumes nothing.
+-- The step limit of a packet: one that Apply takes, and what Run does where none is named. Assumes nothing.
 use Prim.Native.Nat.{ℕ, zero, suc, _≤_}
 use mathlib.Core.Path.{_≡_}
 use mathlib.Core.Bool.{_&&_}
-use mathlib.Core.List.{List, [], _∷_}
+use mathlib.Core.List.{List, [], _∷_, _++_}
 use mathlib.Core.Option.{Option, none, some}
 use native.Mathlib.Omega.{arith}
 use lib.ListN.{length}
@@ -10,7 +10,9 @@ use lib.Dec.{leb, eqb}
 use borrow.Author.Tests.{leb-true}
 use Rattle.table.proofs.Words.{and-right}
 use Rattle.applying.proofs.States.{cond-by}
-use Rattle.fields.specs.Packet.{Field, Packet, highFirst, withArgument, lastField, afterRule, fromFields, fields, packet}
+use Rattle.fields.specs.Packet.{Field, Packet, highFirst, withArgument, lastField, afterRule, fromFields, fields, packet, fieldBytes, argumentBytes}
+use Rattle.fields.proofs.Limits.{hundredThousand, default-named}
+use Rattle.running.specs.Run.{run}
 
 abbrev Most : Option Packet → Type 0
 Most none = Unit {0}
@@ -41,9 +43,16 @@ from-most none = tt
 from-most (some []) = tt
 from-most (some (f ∷ fs)) = cond-by Most (eqb (f .tag) 1) (λ e. after-most (f .value) 8 fs) (λ e. tt)
 
--- "the step limit, at most 1,000,000. Without it the limit is 10,000." (The packet)
+-- "the step limit, at most 1,000,000." (The packet)
 pub packet-limit : (l : List ℕ) {p : Packet} → packet l ≡ some p → p .limit ≤ 1000000
 unfolding packet
 packet-limit l e =
     let m : Most (packet l) = cond-by Most (leb (length l) 16384) (λ h. from-most (fields (length l) l)) (λ h. tt) in
     rw e at m
+
+-- "Without tag 3 the limit becomes 100,000." ([2]) Run of a packet without tag 3 is Run of the same packet with tag 3 of 100,000, where this keeps
+-- within 16,384 bytes: in the answer and in every lent word and byte.
+pub run-default : (w s o r : List ℕ) (vs : List (List ℕ)) → length vs ≤ 8 → length (fieldBytes 1 r ++ (argumentBytes vs ++ fieldBytes 3 hundredThousand)) ≤ 16384
+    → run w s o (fieldBytes 1 r ++ (argumentBytes vs ++ [])) ≡ run w s o (fieldBytes 1 r ++ (argumentBytes vs ++ fieldBytes 3 hundredThousand))
+unfolding run
+run-default w s o r vs few short = rw (default-named r vs few short)

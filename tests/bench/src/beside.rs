@@ -115,6 +115,16 @@ fn single() -> [(&'static str, Case); 4] {
     ]
 }
 
+/// A case that names its step limit, 10,000 where it named none: builds differ in the limit that they
+/// take then.
+fn limited(mut case: Case) -> Case {
+    if let Some(parts) = &mut case.parts {
+        parts.limit.get_or_insert(10_000);
+        case.packet = parts.packet();
+    }
+    case
+}
+
 /// Measures cases in both builds. A run of a contender is a call of each at each place of its code.
 fn row(what: &str, [this, other]: [[Run; PLACES.len()]; 2], cases: &[Case], turns: usize) {
     let cell = RefCell::new(memory(Room {
@@ -151,7 +161,7 @@ pub fn beside(archive: &Path) {
         let what = format!("{what}: {steps} steps, {used} nodes");
         row(&what, builds, &[case], ROUNDS);
     }
-    let cases = compared();
+    let cases: Vec<Case> = compared().into_iter().map(limited).collect();
     let succeeds = |case: &&Case| outcome(&all, case)[0] == 0;
     let good: Vec<Case> = cases.iter().filter(succeeds).cloned().collect();
     let what = "2,000 packets as they are compared, each in its room";

@@ -15,10 +15,10 @@ mod plain;
 mod plot;
 mod workloads;
 
-use compare::answer_of;
 use compare::packets::{self, Case};
 use compare::random::Random;
 use compare::trees;
+use compare::{answer_of, PAPERS};
 use measure::{contender, rounds, Contender, Times};
 use places::PLACES;
 use std::cell::RefCell;
@@ -209,12 +209,11 @@ fn applied(workload: Workload) -> Vec<Times> {
         nodes: workload.table.len() / 2,
         frames: workload.stack.len() / 3,
         out: 65_535,
-        default_limit: 10_000,
     };
     let (mut table, mut stack) = (workload.table.clone(), workload.stack.clone());
     let mut out = vec![0; 65_535];
     let ran = lazvorn::run(&mut table, &mut stack, &mut out, &packet);
-    same_run(&ran, &out, &second::run(&packet, room));
+    same_run(&ran, &out, &second::run(&packet, room, PAPERS));
     let cell = RefCell::new(workload);
     let mut contenders: Vec<Contender> = Vec::new();
     for (name, places) in c::applies() {
@@ -241,7 +240,7 @@ fn applied(workload: Workload) -> Vec<Times> {
     }));
     contenders.push(contender("second evaluator, its whole run", || {
         for _ in PLACES {
-            black_box(second::run(&packet, room).is_ok());
+            black_box(second::run(&packet, room, PAPERS).is_ok());
         }
     }));
     rounds(contenders, ROUNDS)
@@ -412,7 +411,11 @@ fn running(what: &str, cases: &[Case]) {
         (vec![0; room.table], vec![0; room.stack], vec![0; room.out]);
     for case in cases {
         let ran = lazvorn::run(&mut table, &mut stack, &mut out, &case.packet);
-        same_run(&ran, &out, &second::run(&case.packet, second::PROGRAM));
+        same_run(
+            &ran,
+            &out,
+            &second::run(&case.packet, second::PROGRAM, PAPERS),
+        );
     }
     let times = rounds(
         vec![
@@ -424,7 +427,7 @@ fn running(what: &str, cases: &[Case]) {
             }),
             contender("second evaluator", || {
                 for case in cases {
-                    black_box(second::run(&case.packet, second::PROGRAM).is_ok());
+                    black_box(second::run(&case.packet, second::PROGRAM, PAPERS).is_ok());
                 }
             }),
         ],
@@ -443,7 +446,7 @@ fn packets() {
     head("Run");
     let cases = compared();
     running("2,000 packets as they are compared", &cases);
-    let runs = |case: &&Case| second::run(&case.packet, second::PROGRAM).is_ok();
+    let runs = |case: &&Case| second::run(&case.packet, second::PROGRAM, PAPERS).is_ok();
     let cases: Vec<Case> = cases.iter().filter(runs).cloned().collect();
     running(&format!("the {} of them that succeed", cases.len()), &cases);
 }

@@ -1,9 +1,15 @@
-//! What the comparison and the benchmark share: packets, rules and texts from a seeded
-//! generator, and an answer as five numbers.
+//! What the comparison, the program's test and the benchmark share: packets, rules and texts from a
+//! seeded generator, an answer as five numbers, and which requests of document 02 hold.
 
 pub mod packets;
 pub mod random;
 pub mod trees;
+
+/// What the second evaluator goes by: document 01 and, of document 02, [2].
+pub const PAPERS: second::Papers = second::Papers {
+    default_limit: 100_000,
+    ..second::DOCUMENT_01
+};
 
 /// The numbers of an answer from the engine, as the models list them.
 pub fn answer_of(numbers: lazvorn::Numbers) -> model::Answer {

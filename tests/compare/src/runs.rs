@@ -1,9 +1,9 @@
 //! Run beside the second evaluator and the model.
 
 use crate::{difference, hexadecimal, Counts, Noise};
-use compare::answer_of;
 use compare::packets::{self, Case};
 use compare::random::Random;
+use compare::{answer_of, PAPERS};
 use model::{Answer, Memory};
 
 /// The line that the program would print for a run.
@@ -26,9 +26,8 @@ fn second_line(case: &Case) -> String {
         nodes: room.table / 2,
         frames: room.stack / 3,
         out: room.out,
-        default_limit: 10_000,
     };
-    second::line(&second::run(&case.packet, room))
+    second::line(&second::run(&case.packet, room, PAPERS))
 }
 
 /// Whether memory is as the paper says that every refusal and every success leaves it. This knows of

@@ -1,6 +1,7 @@
-//! A plain model of document 01's operations, written from the paper to be read beside it. It says
-//! what each call answers and what it leaves in every word and byte it was lent. Trees are shared
-//! pointers, terms and applications are gone through by recursion, and nothing is fast.
+//! A plain model of document 01's operations as the requests of document 02 that hold leave them,
+//! written from the papers to be read beside them. It says what each call answers and what it leaves
+//! in every word and byte it was lent. Trees are shared pointers, terms and applications are gone
+//! through by recursion, and nothing is fast.
 //!
 //! Whoever calls it gives the thread a large stack: recursion goes as deep as trees and frames do.
 
@@ -556,7 +557,8 @@ fn packet_of(packet: &[u8]) -> Option<Packet<'_>> {
         arguments.push(text);
         at = end;
     }
-    let mut limit = 10_000;
+    // "Without tag 3 the limit becomes 100,000." ([2])
+    let mut limit = 100_000;
     if let Some((value, end)) = field(packet, at, 3) {
         let [a, b, c, d] = value else { return None };
         limit = [a, b, c, d]

@@ -1,7 +1,7 @@
 //! Sends packets to the built program, at each border of what it reads and lends, and compares all
-//! that it prints with the line that document 01 gives for the packet. The comments derive each line
-//! from the paper; the second evaluator, written from the paper too, must give the same. The exit
-//! status is 1 where anything differs.
+//! that it prints with the line that documents 01 and 02 give for the packet. The comments derive each
+//! line from the papers; the second evaluator, written from the papers too, must give the same. The
+//! exit status is 1 where anything differs.
 //!
 //! `program PATH`, in the gate `target/bin/lazvorn`.
 //!
@@ -13,6 +13,7 @@
 //!   uses of the leaf rule and of the stem rule make one each; nothing else does.
 //! - A node that is made is one that is used: a rule's tree, each argument's digits, and the made.
 
+use compare::PAPERS;
 use std::io::{ErrorKind, Write};
 use std::path::{Path, PathBuf};
 use std::process::{Command, Stdio};
@@ -101,7 +102,6 @@ fn papers_lines() -> Vec<Case> {
         ),
         refused("nine arguments", packet(SAME, &["0"; 9]), 6),
         refused("limit 9", limited(DOUBLE, &["0"], 9), 7),
-        refused("one that never ends", packet(DOUBLE, &["212101021010"]), 7),
     ]
 }
 
@@ -245,6 +245,67 @@ fn frames_by_apply() -> Vec<Case> {
     ]
 }
 
+/// 212101021010 on itself, which never ends. "now fills the program's 8,192 nodes first" ([2]); with tag
+/// 3 of 10,000 it is 7.
+///
+/// Its tree and its argument's use 24 nodes and leave 8,168. In a round, spread applies λx. x to it
+/// twice, each time in 4 steps (spread, stem, leaf, drop) with 2 new nodes, and then it is applied to
+/// itself again: 9 steps and 4 nodes. So 2,042 rounds, 18,378 steps, fill the table. The first node that
+/// has no place is wanted by the third use of the next round, a stem, after 18,380 steps: under that
+/// limit 7 comes first, and under one more 8 does.
+fn endless() -> Vec<Case> {
+    let on_itself = &["212101021010"];
+    let with = |limit| limited(DOUBLE, on_itself, limit);
+    vec![
+        refused("one that never ends", packet(DOUBLE, on_itself), 8),
+        refused("the same, 10,000 steps", with(10_000), 7),
+        refused("the same, 18,380 steps", with(18_380), 7),
+        refused("the same, 18,381 steps", with(18_381), 8),
+    ]
+}
+
+/// "Without tag 3 the limit becomes 100,000." ([2]) Packets that take 50,000, 100,000 and 100,001 steps.
+///
+/// f is K0 put together by `twice` eight times. Twice takes 2 steps beside those of its two parts, so
+/// with s steps for one part s + 2 doubles: K0 takes 1 step and f 3 * 2^8 - 2 = 766, on any tree. It
+/// makes no node and gives 0. In the same way d + 4 doubles for d digits: f has 7 * 2^8 - 4 = 1,788.
+///
+/// The rule is λx. x(x(.. x(Δ(Δ(.. Δz))))), n times x and m times Δ before a closed z, on f. For z two
+/// are taken:
+/// - Δ, one leaf in no step.
+/// - T(TΔ) for T = Δ(ΔΔΔ)Δ, 22000: eleven leaves. Each T takes 4 uses of the leaf rule and
+///   the stem rule. T on 0 is 200 in 3 steps with 2 nodes (document 01), and T on 200 is triage, drop
+///   (200 on 0 is 0) and leaf (0 on 0 is 10), 3 steps and 1 node. So 14 steps and 11 nodes.
+///
+/// With l leaves, s steps and v nodes for z: L = m + l and X = n, the planner takes 766n + m + s steps,
+/// and the engine 766n + m + s + 2(m + l) + 5n - 1 = 771n + 3m + s + 2l - 1. The rule's tree has
+/// 5(m + l + n) - 2 + 2n nodes, and 1,788 + 2n + m + v are used besides.
+/// - n = 64, m = 207, T(TΔ): 49,344 + 621 + 35 = 50,000 steps; 1,536 + 1,788 + 128 + 207 + 11 = 3,670.
+/// - n = 129, m = 180, Δ: 99,459 + 540 + 1 = 100,000 steps; 1,806 + 1,788 + 258 + 180 = 4,032.
+/// - n = 129, m = 169, T(TΔ): 99,459 + 507 + 35 = 100,001; 1,801 + 1,788 + 258 + 169 + 11 = 4,027.
+fn steps() -> Vec<Case> {
+    let f = (0..8).fold("200".to_string(), |y, _| twice(&y));
+    assert_eq!(f.len(), 1_788);
+    let t = [1, 1, 0, 1, 1, 0, 0, 0, 0];
+    let twice_t = [&[1], &t[..], &[1], &t[..], &[0]].concat();
+    let rule = |n, m, z: &[u8]| [&[2], &[1, 3, 0].repeat(n)[..], &[1, 0].repeat(m), z].concat();
+    let half = rule(64, 207, &twice_t);
+    let whole = rule(129, 180, &[0]);
+    let one_more = rule(129, 169, &twice_t);
+    let on_f: &[&str] = &[&f];
+    vec![
+        case("50,000 steps", packet(&half, on_f), "0 50000 3670 0"),
+        refused("of 50,000 steps 10,000", limited(&half, on_f, 10_000), 7),
+        case("100,000 steps", packet(&whole, on_f), "0 100000 4032 0"),
+        refused("100,001 steps", packet(&one_more, on_f), 7),
+        case(
+            "100,001 steps, named",
+            limited(&one_more, on_f, 100_001),
+            "0 100001 4027 0",
+        ),
+    ]
+}
+
 // ---- the program
 
 /// All that the program prints for an input, sent in one piece or two.
@@ -281,7 +342,7 @@ fn shown(line: &str) -> String {
 
 /// Whether the program prints the line, and the second evaluator gives it.
 fn same(program: &Path, case: &Case) -> bool {
-    let second = second::line(&second::run(&case.packet, second::PROGRAM));
+    let second = second::line(&second::run(&case.packet, second::PROGRAM, PAPERS));
     let given = printed(program, case).unwrap_or_else(|error| error.to_string());
     let wanted = format!("{}\n", case.line);
     if given != wanted {
@@ -311,6 +372,8 @@ fn compare(program: &Path) -> bool {
         nodes(),
         frames_by_translate(),
         frames_by_apply(),
+        endless(),
+        steps(),
     ];
     let cases: Vec<Case> = parts.into_iter().flatten().collect();
     let differences = cases.iter().filter(|case| !same(program, case)).count();

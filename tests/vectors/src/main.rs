@@ -1,8 +1,8 @@
 //! Runs a script of test vectors through the exported operations and compares the line that each
 //! command gives with the line expected. Beside `src/` stand `script` and `expected`; both are made
-//! from document 01 and source 001, and not from what the engine gives. The exit status is 1 where a
-//! line differs, where lines are missing or left over, where a line of the script is no command, and
-//! where the script has no command at all.
+//! from documents 01 and 02 and source 001, and not from what the engine gives. The exit status is 1
+//! where a line differs, where lines are missing or left over, where a line of the script is no
+//! command, and where the script has no command at all.
 //!
 //! A command stands on a line of its own, its fields parted by one blank each: a letter, numbers in
 //! decimal, texts as they are, bytes in hexadecimal. A line that is empty or begins with # is passed
