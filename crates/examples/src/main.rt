@@ -1,6 +1,6 @@
-// Runs the packet of document 01 and its examples that are not starred, with the room that the program lends, and prints for each the line that
-// the program prints. The lines that it must print stand in `stdout`, beside src/, and are those of documents 01 and 02. The starred lines are
-// proved in specs/ and proofs/.
+// Runs the packet of document 01, its examples that are not starred, and those of request [2] of document 02, with the room that the program
+// lends, and prints for each the line that the program prints. The lines that it must print stand in `stdout`, beside src/, and are the papers'.
+// The starred lines are proved in specs/ and proofs/.
 ghost use Prim.Native.Nat.{_≤_};
 use libc::STDOUT_FILENO;
 use running::Ran;
@@ -48,7 +48,7 @@ fn main() {
     answer(b"\x01\x00\x06\x02\x01\x03\x00\x03\x00\x02\x00\x010");
     // "Rule 02 03 00 without arguments prints 0 0 5 21010."
     answer(b"\x01\x00\x03\x02\x03\x00");
-    // "212101021010 on itself [..] now fills the program's 8,192 nodes first, so its line there gives 8." ([2]) It is the tree of the rule
+    // "The rule 212101021010 on itself now fills the program's 8,192 nodes first, so its line there gives 8." ([2]) It is the tree of the rule
     // 02 01 03 00 03 00. With tag 3 of 10,000 it is 7: "Packets that carry tag 3 are unaffected" ([2]).
     answer(b"\x01\x00\x06\x02\x01\x03\x00\x03\x00\x02\x00\x0c212101021010");
     answer(

@@ -17,7 +17,7 @@ module _ (r : List ℕ) (vs : List (List ℕ)) (few : length vs ≤ 8) where
   abbrev ending : List ℕ → List ℕ
   ending end = fieldBytes 1 r ++ (argumentBytes vs ++ end)
 
-  -- "Packets that carry tag 3 are unaffected" ([2]): the limit is the number named, whatever the default is.
+  -- "Packets that carry tag 3 are unaffected" ([2]): the limit is the number named, and the default does not enter.
   pub named-limit : (v : List ℕ) → length v ≡ 4 → highFirst 0 v ≤ 1000000 → length (ending (fieldBytes 3 v)) ≤ 16384
       → packet (ending (fieldBytes 3 v)) ≡ some (record { rule = r; arguments = vs; limit = highFirst 0 v })
   named-limit v four most short = packet-found (record { end = fieldBytes 3 v; bytes = refl; limit-is = named v four most; few = few; short = short })
@@ -26,7 +26,7 @@ module _ (r : List ℕ) (vs : List (List ℕ)) (few : length vs ≤ 8) where
   pub default-limit : length (ending []) ≤ 16384 → packet (ending []) ≡ some (record { rule = r; arguments = vs; limit = 100000 })
   default-limit short = packet-found (record { end = []; bytes = refl; limit-is = default; few = few; short = short })
 
-  -- A packet without tag 3 is read as the one with tag 3 of 100,000, where this has a place.
+  -- A packet without tag 3 is read as the one with tag 3 of 100,000, where this keeps within 16,384 bytes.
   pub default-named : length (ending (fieldBytes 3 hundredThousand)) ≤ 16384 → packet (ending []) ≡ packet (ending (fieldBytes 3 hundredThousand))
   unfolding highFirst
   default-named short =

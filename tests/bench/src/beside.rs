@@ -115,8 +115,8 @@ fn single() -> [(&'static str, Case); 4] {
     ]
 }
 
-/// A case that names its step limit, 10,000 where it named none: builds differ in the limit that they
-/// take then.
+/// A case whose packet names a step limit, 10,000 where it named none: builds differ in the limit that
+/// they take then. Damaged packets stay as they are.
 fn limited(mut case: Case) -> Case {
     if let Some(parts) = &mut case.parts {
         parts.limit.get_or_insert(10_000);

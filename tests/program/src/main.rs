@@ -273,7 +273,7 @@ fn endless() -> Vec<Case> {
 /// The rule is λx. x(x(.. x(Δ(Δ(.. Δz))))), n times x and m times Δ before a closed z, on f. For z two
 /// are taken:
 /// - Δ, one leaf in no step.
-/// - T(TΔ) for T = Δ(ΔΔΔ)Δ, 22000: eleven leaves. Each T takes 4 uses of the leaf rule and
+/// - T(TΔ) for T = Δ(ΔΔΔ)Δ, 22000: eleven leaves. Each T takes 4 uses of the leaf rule or
 ///   the stem rule. T on 0 is 200 in 3 steps with 2 nodes (document 01), and T on 200 is triage, drop
 ///   (200 on 0 is 0) and leaf (0 on 0 is 10), 3 steps and 1 node. So 14 steps and 11 nodes.
 ///
