@@ -106,7 +106,7 @@ void lazvorn_label(
 
 /*
  * Runs a packet with the table taken as empty. Gives used, steps and digits. Refusals 1, 4 to 10.
- * A packet that names no step limit (tag 3) has 100,000 steps.
+ * The step limit of a packet that names none (by tag 3) is 100,000.
  */
 void lazvorn_run(
     uint32_t *table,       /* the table's words */

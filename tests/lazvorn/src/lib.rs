@@ -211,8 +211,8 @@ pub fn label(table: &mut [u32], used: usize, rule: usize, label: usize) -> Numbe
     })
 }
 
-/// Runs a packet with the table taken as empty, and writes the outcome's text to `out`. A packet that
-/// names no step limit has 100,000 steps.
+/// Runs a packet with the table taken as empty, and writes the outcome's text to `out`. The step limit
+/// of a packet that names none is 100,000.
 pub fn run(table: &mut [u32], stack: &mut [u32], out: &mut [u8], packet: &[u8]) -> Numbers {
     numbers(|answer| unsafe {
         raw::lazvorn_run(
