@@ -5,8 +5,12 @@ use mathlib.Core.Path.{_≡_, ap, _∙_}
 use mathlib.Core.List.{List}
 use Rattle.table.specs.Refusal.{Numbers}
 use Rattle.table.specs.Outcome.{Outcome, wholeOut}
-use Rattle.ffi.specs.Boundary.{listed, numbered}
+use Rattle.ffi.specs.Boundary.{listed, answered, numbered}
+
+pub is-answered : {A : Type 0} (numbers : A → List ℕ) {a : A} {l w s b : List ℕ} {o : Outcome A}
+    → l ≡ numbers a → wholeOut a w s b ≡ o → wholeOut l w s b ≡ answered numbers o
+is-answered numbers {w = w} {s = s} {b = b} p q = ap (λ (x : List ℕ). wholeOut x w s b) p ∙ ap (answered numbers) q
 
 pub is-numbered : {A : Type 0} (numbers : A → Numbers) {a : A} {l w s b : List ℕ} {o : Outcome A}
     → l ≡ listed (numbers a) → wholeOut a w s b ≡ o → wholeOut l w s b ≡ numbered numbers o
-is-numbered numbers {w = w} {s = s} {b = b} p q = ap (λ (x : List ℕ). wholeOut x w s b) p ∙ ap (numbered numbers) q
+is-numbered numbers = is-answered (λ a. listed (numbers a))

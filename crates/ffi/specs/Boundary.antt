@@ -8,6 +8,10 @@ use Rattle.table.specs.Outcome.{Outcome, wholeOut}
 abbrev pub listed : Numbers → List ℕ
 listed n = n .refusal ∷ n .node ∷ n .used ∷ n .steps ∷ n .digits ∷ []
 
--- an operation's outcome, with its answer as numbers
+-- an operation's outcome, with its answer as a list of numbers
+abbrev pub answered : {A : Type 0} → (A → List ℕ) → Outcome A → Outcome (List ℕ)
+answered numbers o = wholeOut (numbers (o .answer)) (o .table) (o .stack) (o .out)
+
+-- the same, with the five numbers
 abbrev pub numbered : {A : Type 0} → (A → Numbers) → Outcome A → Outcome (List ℕ)
-numbered numbers o = wholeOut (listed (numbers (o .answer))) (o .table) (o .stack) (o .out)
+numbered numbers o = answered (λ a. listed (numbers a)) o

@@ -1,5 +1,6 @@
 // The operations for C and Rust, each under a plain name and on plain numbers and slices; include/lazvorn.h declares them. A slice is two C
-// arguments, a pointer and a length. An answer is five numbers in an array that the caller lends: refusal, node, used, steps and digits.
+// arguments, a pointer and a length. An answer is an array that the caller lends: five numbers, refusal, node, used, steps and digits, or what the
+// operation says.
 // The definitions are in specs/.
 ghost use mathlib.Core.Path.{_≡_};
 ghost use mathlib.Core.List.{[]};
@@ -11,8 +12,10 @@ ghost use Rattle.translation.specs.Translate as translating;
 ghost use Rattle.applying.specs.Apply as applying;
 ghost use Rattle.label.specs.Label as labelling;
 ghost use Rattle.running.specs.Run as running;
-ghost use Rattle.ffi.specs.Boundary.{listed, numbered};
+ghost use Rattle.grammar.specs.Outcome as grammar;
+ghost use Rattle.ffi.specs.Boundary.{listed, numbered, answered};
 use applying::Applied;
+use grammar::Encoded;
 use running::Ran;
 use table::Made;
 use table::Refusal;
@@ -171,4 +174,24 @@ pub extern "C" fn lazvorn_run(
 {
     let result = run::run(table, stack, out, packet);
     *answer = ran(result);
+}
+
+// The numbers of the answer to a rule text.
+fn encoded(answer: Encoded) -> [usize; 2]
+    ensures { λ r. ⌜ r ≡ grammar.encodedNumbers answer ⌝ }
+{
+    match answer {
+        Encoded::Bytes(n) => [0, n],
+        Encoded::Refused(refusal) => [checks::number(refusal), 0],
+    }
+}
+
+// Reads a rule text and writes the bytes of its term. The answer is two numbers: refusal, and bytes written.
+#[no_mangle]
+pub extern "C" fn lazvorn_rule_text(text: &[u8], out: &mut [u8], answer: &mut [usize; 2])
+    ensures { λ _. ⌜ wholeOut (now (answer .exit)) [] [] (now (out .exit))
+        ≡ answered grammar.encodedNumbers (grammar.ruleText (now (text .entry)) (now (out .entry))) ⌝ }
+{
+    let read = rule_reader::rule_text(text, out);
+    *answer = encoded(read);
 }

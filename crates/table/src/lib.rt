@@ -23,6 +23,8 @@ pub enum Refusal {
     Frames,
     // the out bytes are full
     Out,
+    // a rule text has no reading
+    RuleText,
 }
 
 // The answer of an operation that makes nodes: the node and the new count of used nodes.

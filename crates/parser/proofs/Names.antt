@@ -1,0 +1,107 @@
+-- Laws of names: which words they are, and where they are bound. Assumes nothing.
+use Prim.Native.Nat.{ℕ, zero, suc, _+_, _≤_, _<_}
+use mathlib.Core.Path.{_≡_, refl, sym, ap, subst, _∙_}
+use mathlib.Core.Bool.{Bool, true, false, cond, not}
+use mathlib.Core.List.{List, [], _∷_}
+use mathlib.Core.Option.{Option, none, some}
+use native.Mathlib.Omega.{arith}
+use native.Mathlib.Numerals.{add-one}
+use lib.ListN.{length, getD, drop, drop-of-length-le}
+use lib.Seq.{drop-cons}
+use lib.Dec.{eqb}
+use borrow.Author.Tests.{eq-eqb, ne-eqb, eqb-true, eqb-false, not-true, not-false}
+use Rattle.grammar.specs.Tokens.{name}
+use Rattle.grammar.specs.Reader.{up, lookup, binder, operandBy, operand}
+use Rattle.grammar.specs.Words.{token}
+use Rattle.parser.specs.Code.{placeOf, IsName}
+use Rattle.parser.specs.declared.Place.the-variants.{At, Nowhere}
+
+token-name : (w : ℕ) → (w ≡ 94 → ⊥) → (w ≡ 40 → ⊥) → (w ≡ 92 → ⊥) → (w ≡ 41 → ⊥) → (w ≡ 46 → ⊥) → (w ≡ 33 → ⊥) → (w ≡ 38 → ⊥) → (w ≡ 124 → ⊥) → (w ≡ 62 → ⊥) → token w ≡ name w
+unfolding token
+token-name w n94 n40 n92 n41 n46 n33 n38 n124 n62 = rw (ne-eqb w 94 n94, ne-eqb w 40 n40, ne-eqb w 92 n92, ne-eqb w 41 n41, ne-eqb w 46 n46, ne-eqb w 33 n33, ne-eqb w 38 n38, ne-eqb w 124 n124, ne-eqb w 62 n62)
+
+pub no-name-caret : (w : ℕ) → w ≡ 94 → IsName w false
+unfolding token binder operand operandBy
+no-name-caret w e = subst (λ (v : ℕ). IsName v false) (sym e) (λ r. (λ f. refl, λ d Γ a b e. absurd (a refl)))
+
+pub no-name-opening : (w : ℕ) → w ≡ 40 → IsName w false
+unfolding token binder operand operandBy
+no-name-opening w e = subst (λ (v : ℕ). IsName v false) (sym e) (λ r. (λ f. refl, λ d Γ a b e. absurd (b refl)))
+
+pub no-name-backslash : (w : ℕ) → w ≡ 92 → IsName w false
+unfolding token binder operand operandBy
+no-name-backslash w e = subst (λ (v : ℕ). IsName v false) (sym e) (λ r. (λ f. refl, λ d Γ a b e. absurd (e refl)))
+
+pub no-name-closing : (w : ℕ) → w ≡ 41 → IsName w false
+unfolding token binder operand operandBy
+no-name-closing w e = subst (λ (v : ℕ). IsName v false) (sym e) (λ r. (λ f. refl, λ d Γ a b e. refl))
+
+pub no-name-stop : (w : ℕ) → w ≡ 46 → IsName w false
+unfolding token binder operand operandBy
+no-name-stop w e = subst (λ (v : ℕ). IsName v false) (sym e) (λ r. (λ f. refl, λ d Γ a b e. refl))
+
+pub no-name-bang : (w : ℕ) → w ≡ 33 → IsName w false
+unfolding token binder operand operandBy
+no-name-bang w e = subst (λ (v : ℕ). IsName v false) (sym e) (λ r. (λ f. refl, λ d Γ a b e. refl))
+
+pub no-name-ampersand : (w : ℕ) → w ≡ 38 → IsName w false
+unfolding token binder operand operandBy
+no-name-ampersand w e = subst (λ (v : ℕ). IsName v false) (sym e) (λ r. (λ f. refl, λ d Γ a b e. refl))
+
+pub no-name-bar : (w : ℕ) → w ≡ 124 → IsName w false
+unfolding token binder operand operandBy
+no-name-bar w e = subst (λ (v : ℕ). IsName v false) (sym e) (λ r. (λ f. refl, λ d Γ a b e. refl))
+
+no-name-arrow : (w : ℕ) → w ≡ 62 → IsName w false
+unfolding token binder operand operandBy
+no-name-arrow w e = subst (λ (v : ℕ). IsName v false) (sym e) (λ r. (λ f. refl, λ d Γ a b e. refl))
+
+-- the last of the signs, or a name
+pub name-last : (w : ℕ) → (w ≡ 94 → ⊥) → (w ≡ 40 → ⊥) → (w ≡ 92 → ⊥) → (w ≡ 41 → ⊥) → (w ≡ 46 → ⊥) → (w ≡ 33 → ⊥) → (w ≡ 38 → ⊥) → (w ≡ 124 → ⊥)
+    → (z : Bool) → not (eqb w 62) ≡ z → IsName w z
+name-last w n94 n40 n92 n41 n46 n33 n38 n124 true e = token-name w n94 n40 n92 n41 n46 n33 n38 n124 (eqb-false w 62 (not-true _ e))
+name-last w n94 n40 n92 n41 n46 n33 n38 n124 false e = no-name-arrow w (eqb-true w 62 (not-false _ e))
+
+-- so many names passed
+unfoldable pub upBy : ℕ → Option ℕ → Option ℕ
+upBy zero o = o
+upBy (suc n) o = upBy n (up o)
+
+upBy-none : (n : ℕ) → upBy n none ≡ none
+unfolding upBy up
+upBy-none zero = refl
+upBy-none (suc n) = upBy-none n
+
+upBy-some : (n k : ℕ) → upBy n (some k) ≡ some (n + k)
+unfolding upBy up
+upBy-some zero k = let e : k ≡ 0 + k = omega arith in ap some e
+upBy-some (suc n) k = let e : n + suc k ≡ suc n + k = omega arith in upBy-some n (suc k) ∙ ap some e
+
+abbrev pub Searched : List ℕ → ℕ → ℕ → ℕ → Type 0
+Searched ns from x i = lookup (drop from ns) x ≡ upBy i (lookup (drop (from + i) ns) x)
+
+pub searched-none : (ns : List ℕ) (from x : ℕ) → Searched ns from x 0
+unfolding upBy
+searched-none ns from x = let e : from + 0 ≡ from = omega arith in rw e
+
+lookup-cons : (ns : List ℕ) (x i : ℕ) → i < length ns → lookup (drop i ns) x ≡ cond (eqb x (getD ns i 0)) (some 0) (up (lookup (drop (i + 1) ns) x))
+unfolding lookup
+lookup-cons ns x i h = ap (λ (l : List ℕ). lookup l x) (drop-cons ns i 0 h) ∙ ap (λ (n : ℕ). cond (eqb x (getD ns i 0)) (some 0) (up (lookup (drop n ns) x))) (sym (add-one i))
+
+pub searched-more : (ns : List ℕ) (from x i : ℕ) → Searched ns from x i → from + i < length ns → (x ≡ getD ns (from + i) 0 → ⊥) → Searched ns from x (i + 1)
+unfolding upBy
+searched-more ns from x i q h e =
+    let l : from + i + 1 ≡ from + (i + 1) = omega arith in
+    q ∙ ap (upBy i) (lookup-cons ns x (from + i) h ∙ ap (λ (z : Bool). cond z (some 0) (up (lookup (drop (from + i + 1) ns) x))) (ne-eqb _ _ e))
+    ∙ ap (λ (n : ℕ). upBy n (lookup (drop (from + i + 1) ns) x)) (sym (add-one i))
+    ∙ ap (λ (n : ℕ). upBy (i + 1) (lookup (drop n ns) x)) l
+
+pub searched-found : (ns : List ℕ) (from x i : ℕ) → Searched ns from x i → from + i < length ns → x ≡ getD ns (from + i) 0 → At i ≡ placeOf (lookup (drop from ns) x)
+unfolding placeOf
+searched-found ns from x i q h e =
+    let l : i + 0 ≡ i = omega arith in
+    sym (ap placeOf (q ∙ ap (upBy i) (lookup-cons ns x (from + i) h ∙ ap (λ (z : Bool). cond z (some 0) (up (lookup (drop (from + i + 1) ns) x))) (eq-eqb _ _ e)) ∙ upBy-some i 0) ∙ ap At l)
+
+pub searched-end : (ns : List ℕ) (from x i : ℕ) → Searched ns from x i → length ns ≤ from + i → Nowhere ≡ placeOf (lookup (drop from ns) x)
+unfolding placeOf lookup
+searched-end ns from x i q h = sym (ap placeOf (q ∙ ap (λ (l : List ℕ). upBy i (lookup l x)) (drop-of-length-le ns h) ∙ upBy-none i))
