@@ -38,7 +38,7 @@ fn times(n: usize) -> Vec<u8> {
 }
 
 fn text_of(rule: &[u8]) -> Vec<u8> {
-    model::rule_text(rule, 10_000).expect("a rule of moderate size")
+    model::tree_text(rule, 10_000).expect("a rule of moderate size")
 }
 
 /// The text of what a rule gives on arguments.

@@ -299,7 +299,7 @@ fn translate(random: &mut Random, noise: &Noise) -> Call {
     let (mut memory, used) = memory(random, noise, words, 0);
     if random.once_in(3) && used <= memory.table.len() / 2 {
         // About as many nodes or frames as the rule's tree wants.
-        if let Some(text) = model::rule_text(&bytes, 20_000) {
+        if let Some(text) = model::tree_text(&bytes, 20_000) {
             let words = (2 * random.near(used + text.len()) + random.below(2)).min(131_072);
             let stack = (6 * text.len() + random.below(3)).saturating_sub(random.below(2));
             let more = noise.memory(random, words, stack.min(65_537), 0);

@@ -1,8 +1,9 @@
-//! What the comparison, the program's test and the benchmark share: packets, rules and texts from a
-//! seeded generator, an answer as five numbers, and which requests of document 02 hold.
+//! What the comparison, the program's test and the benchmark share: packets, rules, texts and rule
+//! texts from a seeded generator, an answer as five numbers, and which requests of document 02 hold.
 
 pub mod packets;
 pub mod random;
+pub mod texts;
 pub mod trees;
 
 /// What the second evaluator goes by: document 01 and, of document 02, [2].

@@ -1,22 +1,30 @@
-//! Compares the engine with the second evaluator on packets, and with the model on packets and on
-//! calls of each operation: answers and every lent word and byte. Prints each difference and, at the
-//! end, how often each refusal was met. The exit status is 1 where anything differs, and where a
-//! refusal from 4 to 10 was met too seldom for the run to mean something.
+//! Compares the engine with the second evaluator on packets, and with the model on packets, on calls
+//! of each operation and on rule texts: answers and every lent word and byte. Rule texts printed from
+//! random expressions are held to the expressions too. Prints each difference, of rule texts the first
+//! few, and how often each refusal was met. The exit status is 1 where anything differs, and where a
+//! refusal that packets or rule texts can meet was met too seldom for the run to mean something.
 //!
 //! `compare [PACKETS [SEED]]`
 
 mod calls;
+mod rule_texts;
 mod runs;
 
 use compare::random::Random;
 use model::Memory;
 
-/// How many packets and how many calls a run compares if nothing else is asked.
+/// How many packets and how many calls a run compares if nothing else is asked, and from how many
+/// expressions it prints rule texts.
 const PACKETS: usize = 120_000;
 const CALLS: usize = 200_000;
+const EXPRESSIONS: usize = 20_000;
 
 /// How often a packet must meet each refusal from 4 to 10.
 const SELDOM: usize = 100;
+
+/// How often rule texts with a known outcome, and rule texts with one byte changed, must succeed and
+/// meet each of their refusals.
+const SELDOM_TEXTS: usize = 1_000;
 
 /// How often each refusal was met, and 0 for success.
 pub type Counts = [usize; 11];
@@ -74,14 +82,32 @@ pub fn difference(engine: &Memory, model: &Memory) -> Option<String> {
         .or_else(|| first("out", &engine.out, &model.out))
 }
 
-fn print(what: &str, counts: &Counts) {
-    let refusals: Vec<String> = (1..=10).map(|k| format!("{k}: {}", counts[k])).collect();
+fn print(what: &str, counts: &[usize], refusals: impl IntoIterator<Item = usize>) {
+    let refusals = refusals.into_iter();
+    let refusals: Vec<String> = refusals.map(|k| format!("{k}: {}", counts[k])).collect();
     let all: usize = counts.iter().sum();
     println!(
         "{what:<10} {all:>7} compared, {:>6} succeeded; refused {}",
         counts[0],
         refusals.join(", ")
     );
+}
+
+/// Compares rule texts; how many differ, and how many refusals were met too seldom.
+fn compare_texts(random: &mut Random, noise: &Noise) -> usize {
+    let outcome = rule_texts::compare(random, noise, EXPRESSIONS);
+    let mut differences = outcome.differences;
+    for (what, counts) in [("Rule text", outcome.known), ("changed", outcome.changed)] {
+        print(what, &counts, rule_texts::REFUSALS);
+        for number in [0].into_iter().chain(rule_texts::REFUSALS) {
+            let count = counts[number];
+            if count < SELDOM_TEXTS {
+                println!("{what}: {number} was met {count} times: too seldom");
+                differences += 1;
+            }
+        }
+    }
+    differences
 }
 
 fn compare() -> bool {
@@ -94,7 +120,7 @@ fn compare() -> bool {
     let noise = Noise::new(&mut random);
 
     let (counts, mut differences) = runs::compare(&mut random, &noise, packets);
-    print("Run", &counts);
+    print("Run", &counts, 1..=10);
     for (number, count) in counts.iter().enumerate().skip(4) {
         if *count < SELDOM {
             println!("refusal {number} was met {count} times: too seldom");
@@ -103,7 +129,7 @@ fn compare() -> bool {
     }
     for operation in calls::OPERATIONS {
         let (counts, more) = calls::compare(&mut random, &noise, operation, CALLS / 5);
-        print(operation.name, &counts);
+        print(operation.name, &counts, 1..=10);
         for number in operation.refusals {
             if counts[*number] == 0 {
                 println!("{}: refusal {number} was never met", operation.name);
@@ -112,6 +138,7 @@ fn compare() -> bool {
         }
         differences += more;
     }
+    differences += compare_texts(&mut random, &noise);
     println!("{differences} differences");
     differences == 0
 }

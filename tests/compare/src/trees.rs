@@ -73,7 +73,7 @@ pub fn deep(random: &mut Random, depth: usize) -> Vec<u8> {
 
 /// A rule's tree as a text, for rules of moderate size.
 pub fn text_of(rule: &[u8]) -> Vec<u8> {
-    model::rule_text(rule, 4_000).unwrap_or_else(|| b"0".to_vec())
+    model::tree_text(rule, 4_000).unwrap_or_else(|| b"0".to_vec())
 }
 
 /// A whole text: a rule's tree, a random one or a deep one.

@@ -1,8 +1,8 @@
 //! The engine's operations as safe Rust functions over the static library of the crate `ffi`.
 //!
 //! The library has no state and no heap: a caller lends a table, a stack and out bytes, and every
-//! call leaves in them what document 01 says. No call has a condition on its arguments: lengths,
-//! counts and node numbers that do not fit are refused.
+//! call leaves in them what documents 01 and 02 say. No call has a condition on its arguments:
+//! lengths, counts and node numbers that do not fit are refused.
 
 /// The five numbers of an answer. A refusal has `used` as at entry and 0 for the numbers after it.
 #[derive(Clone, Copy, Debug, Default, PartialEq, Eq)]
@@ -19,6 +19,15 @@ pub struct Numbers {
     pub digits: usize,
 }
 
+/// The two numbers of an answer about a rule text. A refusal has 0 for the bytes.
+#[derive(Clone, Copy, Debug, Default, PartialEq, Eq)]
+pub struct TextNumbers {
+    /// 0 for success, else the refusal's number.
+    pub refusal: usize,
+    /// The bytes written.
+    pub bytes: usize,
+}
+
 /// Table or stack too long, `used` above the capacity, out bytes or step limit too large.
 pub const LIMITS: usize = 1;
 /// A used node is broken.
@@ -27,7 +36,7 @@ pub const BROKEN: usize = 2;
 pub const NODE: usize = 3;
 /// A text is not one whole tree, or too long.
 pub const TEXT: usize = 4;
-/// Bytes are not a rule.
+/// Bytes, or the term of a rule text, are not a rule.
 pub const RULE: usize = 5;
 /// A packet is broken.
 pub const PACKET: usize = 6;
@@ -39,6 +48,8 @@ pub const NODES: usize = 8;
 pub const FRAMES: usize = 9;
 /// The out bytes are full.
 pub const OUT: usize = 10;
+/// A rule text is outside the grammar, has an unbound name, or is too long or too deep.
+pub const RULE_TEXT: usize = 12;
 
 /// A slice crosses the boundary as a pointer and a length. Nothing checks these declarations
 /// against the library, so `tests/boundary.rs` calls each with arguments that differ.
@@ -104,6 +115,13 @@ mod raw {
             packet: *const u8,
             packet_len: usize,
             answer: *mut [usize; 5],
+        );
+        pub fn lazvorn_rule_text(
+            text: *const u8,
+            text_len: usize,
+            out: *mut u8,
+            out_len: usize,
+            answer: *mut [usize; 2],
         );
     }
 }
@@ -227,4 +245,20 @@ pub fn run(table: &mut [u32], stack: &mut [u32], out: &mut [u8], packet: &[u8]) 
             answer,
         )
     })
+}
+
+/// Writes the rule that a rule text is, as a term in bytes, to `out`.
+pub fn rule_text(text: &[u8], out: &mut [u8]) -> TextNumbers {
+    let mut answer = [usize::MAX; 2];
+    unsafe {
+        raw::lazvorn_rule_text(
+            text.as_ptr(),
+            text.len(),
+            out.as_mut_ptr(),
+            out.len(),
+            &mut answer,
+        )
+    };
+    let [refusal, bytes] = answer;
+    TextNumbers { refusal, bytes }
 }

@@ -2,7 +2,10 @@
 //! function with lengths and numbers that all differ, once with just enough of each and once with
 //! one too few of each, so that an argument in another's place, or a length that is lost, shows.
 
-use lazvorn::{Numbers, BROKEN, FRAMES, LIMITS, NODE, NODES, OUT, PACKET, RULE, STEPS, TEXT};
+use lazvorn::{
+    Numbers, TextNumbers, BROKEN, FRAMES, LIMITS, NODE, NODES, OUT, PACKET, RULE, RULE_TEXT, STEPS,
+    TEXT,
+};
 
 /// Fills memory that is to be left as found, or overwritten.
 const NOISE: u32 = 0xdead_beef;
@@ -271,4 +274,87 @@ fn run() {
     assert_eq!(call(131_073, 73, 3, packet).0, refused(LIMITS, 0));
     assert_eq!(call(37, 65_537, 3, packet).0, refused(LIMITS, 0));
     assert_eq!(call(37, 73, 65_536, packet).0, refused(LIMITS, 0));
+}
+
+/// Calls `rule_text` with so many out bytes; what it answers, and the out bytes with those beyond.
+fn rule_text_of(text: &[u8], out: usize) -> (TextNumbers, Vec<u8>) {
+    let mut lent = Lent::new(6, 0, out);
+    let (_, _, o) = lent.parts();
+    let numbers = lazvorn::rule_text(text, o);
+    lent.nothing_beyond();
+    (numbers, lent.out)
+}
+
+/// Holds a call to a refusal that leaves the out bytes as found.
+fn refused_text(text: &[u8], out: usize, refusal: usize) {
+    let (numbers, after) = rule_text_of(text, out);
+    assert_eq!(numbers, TextNumbers { refusal, bytes: 0 });
+    assert_eq!(after, vec![BYTE; out + BEYOND]);
+}
+
+#[test]
+fn rule_text() {
+    // λf.λx. f x as a text of 11 bytes is a term of 7.
+    let bytes = br"\f.\xy.f xyz";
+    let text = &bytes[..11];
+    let (numbers, out) = rule_text_of(text, 9);
+    let written = TextNumbers {
+        refusal: 0,
+        bytes: 7,
+    };
+    assert_eq!(numbers, written);
+    assert_eq!(out[..9], [2, 2, 1, 3, 1, 3, 0, BYTE, BYTE]);
+    assert_eq!(rule_text_of(text, 7).0, written);
+    refused_text(text, 6, OUT);
+    refused_text(text, 0, OUT);
+    // A byte more or less leaves a name that is unbound, two less a body that is f alone.
+    refused_text(bytes, 9, RULE_TEXT);
+    refused_text(&text[..10], 9, RULE_TEXT);
+    assert_eq!(rule_text_of(&text[..9], 9).0.bytes, 4);
+    refused_text(&text[..7], 9, RULE_TEXT);
+    refused_text(b"", 9, RULE_TEXT);
+    refused_text(b"^", 9, RULE);
+}
+
+#[test]
+fn rule_text_refusals_in_order() {
+    // 12 comes before 5, and 5 before 10.
+    refused_text(b"x", 0, RULE_TEXT);
+    refused_text(br"!\x.x", 0, RULE);
+    refused_text(br"\x.x", 1, OUT);
+    let spaced = |spaces| [&br"\x.x"[..], &b" ".repeat(spaces)].concat();
+    assert_eq!(rule_text_of(&spaced(8_188), 5).0.bytes, 3);
+    refused_text(&spaced(8_189), 5, RULE_TEXT);
+    let wrapped = |depth| {
+        let (open, close) = (b"(".repeat(depth), b")".repeat(depth));
+        [&open, &br"\x.x"[..], &close].concat()
+    };
+    assert_eq!(rule_text_of(&wrapped(32), 5).0.bytes, 3);
+    refused_text(&wrapped(33), 5, RULE_TEXT);
+    let leaves = |count| [&br"\x."[..], &b"^".repeat(count)].concat();
+    assert_eq!(rule_text_of(&leaves(2_048), 4_099).0.bytes, 4_096);
+    refused_text(&leaves(2_048), 4_095, OUT);
+    refused_text(&leaves(2_049), 4_099, RULE);
+    let nested = |count| [&br"\x.".repeat(count)[..], b"x"].concat();
+    assert_eq!(rule_text_of(&nested(16), 20).0.bytes, 18);
+    refused_text(&nested(17), 20, RULE);
+}
+
+#[test]
+fn rule_text_in_a_stack_of_one_megabyte() {
+    let texts = || {
+        let row = |start: &[u8], part: &[u8], times, end: &[u8]| {
+            [start, &part.repeat(times), end].concat()
+        };
+        // The most abstractions that a text has room for, with a bound and an unbound name.
+        refused_text(&row(b"", br"\a.", 2_730, b"a"), 9, RULE);
+        refused_text(&row(b"", br"\a.", 2_730, b"b"), 9, RULE_TEXT);
+        // Texts of 8,192 bytes: operands, `!` and `>`.
+        refused_text(&row(br"\x.", b"^", 8_189, b""), 9, RULE);
+        refused_text(&row(br"\x.", b"!", 8_188, b"x"), 9, RULE);
+        refused_text(&row(br"\x.x", b">x", 4_094, b""), 9, RULE);
+        refused_text(&row(b"", b"(", 8_192, b""), 9, RULE_TEXT);
+    };
+    let thread = std::thread::Builder::new().stack_size(1 << 20);
+    assert!(thread.spawn(texts).expect("a thread").join().is_ok());
 }

@@ -7,6 +7,8 @@
 
 use std::rc::Rc;
 
+pub mod rule_text;
+
 /// All that a call may be lent.
 #[derive(Clone, Debug, PartialEq, Eq)]
 pub struct Memory {
@@ -351,7 +353,7 @@ fn tree_of(term: &Term) -> Rc<Tree> {
 
 /// The text of a rule's tree, or none where the bytes are no rule or the tree has more than `most`
 /// nodes.
-pub fn rule_text(bytes: &[u8], most: usize) -> Option<Vec<u8>> {
+pub fn tree_text(bytes: &[u8], most: usize) -> Option<Vec<u8>> {
     let rule = rule(bytes)?;
     if size(&rule).0 > most as u128 {
         return None;
