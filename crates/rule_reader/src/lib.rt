@@ -75,14 +75,25 @@ fn read_text(
     read_words(&words[..n], names, post, out)
 }
 
-// A text of at most 64 bytes.
-fn read_64(text: &[u8], out: &mut [u8]) -> Encoded
-    requires { ⌜ length (now text) ≤ 64 ⌝ }
+// A text of at most 32 bytes.
+fn read_32(text: &[u8], out: &mut [u8]) -> Encoded
+    requires { ⌜ length (now text) ≤ 32 ⌝ }
     ensures { λ r. ⌜ wholeOut r [] [] (now (out .exit)) ≡ ruleText (now (text .entry)) (now (out .entry)) ⌝ }
 {
-    let mut words = [0u64; 64];
-    let mut names = [0u64; 22];
-    let mut post = [0u16; 128];
+    let mut words = [0u64; 32];
+    let mut names = [0u64; 11];
+    let mut post = [0u16; 64];
+    read_text(text, &mut words, &mut names, &mut post, out)
+}
+
+// A text of at most 128 bytes.
+fn read_128(text: &[u8], out: &mut [u8]) -> Encoded
+    requires { ⌜ length (now text) ≤ 128 ⌝ }
+    ensures { λ r. ⌜ wholeOut r [] [] (now (out .exit)) ≡ ruleText (now (text .entry)) (now (out .entry)) ⌝ }
+{
+    let mut words = [0u64; 128];
+    let mut names = [0u64; 43];
+    let mut post = [0u16; 256];
     read_text(text, &mut words, &mut names, &mut post, out)
 }
 
@@ -97,6 +108,28 @@ fn read_512(text: &[u8], out: &mut [u8]) -> Encoded
     read_text(text, &mut words, &mut names, &mut post, out)
 }
 
+// A text of at most 1,024 bytes.
+fn read_1024(text: &[u8], out: &mut [u8]) -> Encoded
+    requires { ⌜ length (now text) ≤ 1024 ⌝ }
+    ensures { λ r. ⌜ wholeOut r [] [] (now (out .exit)) ≡ ruleText (now (text .entry)) (now (out .entry)) ⌝ }
+{
+    let mut words = [0u64; 1024];
+    let mut names = [0u64; 342];
+    let mut post = [0u16; 2048];
+    read_text(text, &mut words, &mut names, &mut post, out)
+}
+
+// A text of at most 2,048 bytes.
+fn read_2048(text: &[u8], out: &mut [u8]) -> Encoded
+    requires { ⌜ length (now text) ≤ 2048 ⌝ }
+    ensures { λ r. ⌜ wholeOut r [] [] (now (out .exit)) ≡ ruleText (now (text .entry)) (now (out .entry)) ⌝ }
+{
+    let mut words = [0u64; 2048];
+    let mut names = [0u64; 683];
+    let mut post = [0u16; 4096];
+    read_text(text, &mut words, &mut names, &mut post, out)
+}
+
 // A text of at most 8,192 bytes.
 fn read_8192(text: &[u8], out: &mut [u8]) -> Encoded
     requires { ⌜ length (now text) ≤ 8192 ⌝ }
@@ -108,7 +141,7 @@ fn read_8192(text: &[u8], out: &mut [u8]) -> Encoded
     read_text(text, &mut words, &mut names, &mut post, out)
 }
 
-// Reads a rule text and writes the bytes of its term: 12, then 5, then 10. The arrays are about as long as the text needs.
+// Reads a rule text and writes the bytes of its term: 12, then 5, then 10.
 pub fn rule_text(text: &[u8], out: &mut [u8]) -> Encoded
     ensures { λ r. ⌜ wholeOut r [] [] (now (out .exit)) ≡ ruleText (now (text .entry)) (now (out .entry)) ⌝ }
 {
@@ -116,11 +149,20 @@ pub fn rule_text(text: &[u8], out: &mut [u8]) -> Encoded
     if 8192 < n {
         return Encoded::Refused(Refusal::RuleText);
     }
-    if n <= 64 {
-        return read_64(text, out);
+    if n <= 32 {
+        return read_32(text, out);
+    }
+    if n <= 128 {
+        return read_128(text, out);
     }
     if n <= 512 {
         return read_512(text, out);
+    }
+    if n <= 1024 {
+        return read_1024(text, out);
+    }
+    if n <= 2048 {
+        return read_2048(text, out);
     }
     read_8192(text, out)
 }
