@@ -1,4 +1,4 @@
--- What the functions of the writer ask and give. Assumes nothing: these are definitions.
+-- What the functions ask and give, in terms of the term and its bytes. Assumes nothing: these are definitions.
 use Prim.Native.Nat.{ℕ, _+_, _≤_, _<_}
 use mathlib.Core.Path.{_≡_}
 use mathlib.Core.List.{List, [], _∷_, _++_}
@@ -25,6 +25,7 @@ Small (and a b) = Small a × Small b
 Small (or a b) = Small a × Small b
 Small (implies a b) = Small a × Small b
 
+-- the symbols of e stand before p, after xs, and its bytes have room before o
 pub record EncodeAt (e : Expression) (xs post : List ℕ) (p : ℕ) (out : List ℕ) (o : ℕ) : Type 0 where
   pub stands : take p post ≡ xs ++ postfix e
   pub within : p ≤ length post
@@ -37,10 +38,12 @@ pub record EncodeAsks (post : List ℕ) (p : ℕ) (out : List ℕ) (o : ℕ) : T
   pub xs : List ℕ
   pub is : EncodeAt e xs post p out o
 
+-- where the symbols and the bytes of e begin, and that the bytes are written
 pub record EncodeGives (e : Expression) (xs out : List ℕ) (o from at : ℕ) (m : List ℕ) : Type 0 where
   pub begins : from ≡ length xs
   pub laid : Laid out o (bytes (termOf e)) at m
 
+-- the symbols of some e stand before p
 pub record NestsAsks (post : List ℕ) (p : ℕ) : Type 0 where
   pub e : Expression
   pub xs : List ℕ
@@ -48,6 +51,7 @@ pub record NestsAsks (post : List ℕ) (p : ℕ) : Type 0 where
   pub within : p ≤ length post
   pub few : p ≤ 16384
 
+-- where the symbols of e begin, and how many abstractions nest in its term
 pub record Nests (e : Expression) (xs : List ℕ) (from nests : ℕ) : Type 0 where
   pub begins : from ≡ length xs
   pub deep : nests ≡ nesting (termOf e)

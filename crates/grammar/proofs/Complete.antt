@@ -12,8 +12,8 @@ use Rattle.grammar.specs.Expression.{Expression, app, abs, not, and, or,
 use Rattle.grammar.specs.Tokens.{Token, caret, name, opening, closing, backslash, stop, bang, ampersand, bar, arrow}
 use Rattle.grammar.specs.Grammar.{Bound, nearest, farther, Ends, of-text, of-group, Level, Reads, the-leaf, the-name, group, abstraction, one-operand, applied, one-application, negated, one-negation, both, one-conjunction, either, one-disjunction, follows}
 use Rattle.grammar.specs.Reader as reader
-use Rattle.grammar.specs.Reader.{Read, nothing, read, Unclosed, unclosed, empty, noted, conjoined, disjoined, implied, up, lookup, variable, follow, abstracted, enclosed, body, binder, inside, operandBy, start, next, parse, more, operand}
-use Rattle.grammar.proofs.Enough.{Starts, parse-bang, parse-operand, more-operand, more-end, more-closing, more-ampersand, more-bar, more-arrow}
+use Rattle.grammar.specs.Reader.{Read, nothing, read, Unclosed, unclosed, empty, noted, conjoined, disjoined, implied, up, lookup, variable, follow, abstracted, enclosed, body, binder, inside, operandBy, start, next, parse, more, operand, Starts}
+use Rattle.grammar.proofs.Enough.{parse-bang, parse-operand, more-operand, more-end, more-closing, more-ampersand, more-bar, more-arrow}
 
 -- what may follow a negation or a conjunction, a disjunction, an expression
 abbrev pub AfterAnd : List Token → Type 0

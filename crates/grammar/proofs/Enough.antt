@@ -7,7 +7,7 @@ use native.Mathlib.Omega.{arith}
 use lib.ListN.{length}
 use Rattle.grammar.specs.Expression.{Expression, app}
 use Rattle.grammar.specs.Tokens.{Token, caret, name, opening, closing, backslash, stop, bang, ampersand, bar, arrow}
-use Rattle.grammar.specs.Reader.{Read, nothing, read, Unclosed, empty, noted, afterAnd, afterOr, afterImplies, closed, lookup, variable, follow, abstracted, enclosed, body, binder, inside, operandBy, start, next, parse, more, operand}
+use Rattle.grammar.specs.Reader.{Read, nothing, read, Unclosed, empty, noted, afterAnd, afterOr, afterImplies, closed, lookup, variable, follow, abstracted, enclosed, body, binder, inside, operandBy, start, next, parse, more, operand, Starts}
 
 -- fewer than n tokens are left
 abbrev Short : ℕ → Read → Type 0
@@ -217,20 +217,6 @@ mutual
   next-enough (suc n) (suc m) d Γ p e (ampersand ∷ r) h l = start-enough n m d Γ (afterAnd p e) r (omega arith) (omega arith)
   next-enough (suc n) (suc m) d Γ p e (bar ∷ r) h l = start-enough n m d Γ (afterOr p e) r (omega arith) (omega arith)
   next-enough (suc n) (suc m) d Γ p e (arrow ∷ r) h l = start-enough n m d Γ (afterImplies p e) r (omega arith) (omega arith)
-
--- the tokens begin an operand
-abbrev pub Starts : List Token → Type 0
-Starts [] = ⊥
-Starts (caret ∷ r) = Unit {0}
-Starts (name x ∷ r) = Unit {0}
-Starts (opening ∷ r) = Unit {0}
-Starts (closing ∷ r) = ⊥
-Starts (backslash ∷ r) = Unit {0}
-Starts (stop ∷ r) = ⊥
-Starts (bang ∷ r) = ⊥
-Starts (ampersand ∷ r) = ⊥
-Starts (bar ∷ r) = ⊥
-Starts (arrow ∷ r) = ⊥
 
 module _ (d : ℕ) (Γ : List ℕ) (p : Unclosed) where
   pub parse-bang : (r : List Token) → parse d Γ p (bang ∷ r) ≡ parse d Γ (noted p) r

@@ -5,7 +5,7 @@ use mathlib.Core.List.{List, [], _∷_}
 use Rattle.grammar.specs.Tokens.{Token, caret, name, opening, closing, backslash, stop, bang, ampersand, bar, arrow}
 use Rattle.grammar.specs.Expression.{Expression, leaf, var, app, abs, not, and, or, implies}
 
--- "bound by the nearest abstraction of that name": x is the i-th of the names around, nearest first, and none nearer is x
+-- "bound by the nearest abstraction of that name": x is the i-th of the names around, counted from 0 and from the nearest, and none nearer is x
 pub data Bound : List ℕ → ℕ → ℕ → Type 0 where
   nearest : {x : ℕ} {Γ : List ℕ} → Bound (x ∷ Γ) x 0
   farther : {x y i : ℕ} {Γ : List ℕ} → (x ≡ y → ⊥) → Bound Γ x i → Bound (y ∷ Γ) x (suc i)
@@ -19,8 +19,8 @@ pub data Ends : List Token → Type 0 where
 pub data Level : Type 0 where
   operand application negation conjunction disjunction expression : Level
 
--- Reads Γ d l ts e r: under the names Γ, nearest first, and with d more parentheses allowed, the tokens ts are a phrase of level l that says e, and
--- then r.
+-- Reads Γ d l ts e r: under the names Γ, nearest first, and with parentheses nested at most d deep, the tokens ts are a phrase of level l that says
+-- e, and then r.
 pub data Reads : List ℕ → ℕ → Level → List Token → Expression → List Token → Type 0 where
   the-name : {Γ : List ℕ} {d x i : ℕ} {r : List Token} → Bound Γ x i → Reads Γ d operand (name x ∷ r) (var i) r
   -- "A backslash, a name and a full stop open an abstraction that reaches as far right as it can." "An abstraction may stand as a last operand."

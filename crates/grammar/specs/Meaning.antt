@@ -14,11 +14,11 @@ unfoldable pub I : Term
 unfolding K
 I = two Term.leaf K K
 
--- Δ(Δx): of a tree x, the stem of its stem
+-- Δ(Δx): of a tree x, the stem of the stem of x
 unfoldable pub stemOfStem : Term → Term
 stemOfStem x = Term.app Term.leaf (Term.app Term.leaf x)
 
--- "and Δ(Δ(K(KI)))"
+-- "The trees are those of section 5.5 of source document 001, untyped: and Δ(Δ(K(KI)))"
 unfoldable pub andTree : Term
 unfolding K I stemOfStem
 andTree = stemOfStem (Term.app K (Term.app K I))

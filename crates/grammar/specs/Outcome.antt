@@ -23,7 +23,8 @@ unfoldable pub encodedNumbers : Encoded → List ℕ
 encodedNumbers (Bytes n) = 0 ∷ n ∷ []
 encodedNumbers (Refused e) = number e ∷ 0 ∷ []
 
--- refused: out stays as found
+-- "Numbers 1 to 6, and any above 10 added later, leave lent memory as found." (document 01, Operations); for 10 "out bytes past what is written stay",
+-- and none is written
 abbrev pub refusedText : Refusal → List ℕ → Outcome Encoded
 refusedText e out = wholeOut (Refused e) [] [] out
 

@@ -1,4 +1,5 @@
--- An expression as symbols, operands before their operator. Assumes nothing: these are definitions.
+-- An expression as symbols, operands before their operator: what the parser writes and the encoder reads, and no part of the grammar. Assumes
+-- nothing: these are definitions.
 use Prim.Native.Nat.{ℕ, zero, suc, _+_}
 use mathlib.Core.List.{List, [], _∷_, _++_}
 use lib.ListN.{length}

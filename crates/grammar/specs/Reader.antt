@@ -1,4 +1,5 @@
--- The reader of tokens. Assumes nothing: these are definitions.
+-- The reader of tokens, which finds the reading of a text. The theorem `exact` says that it finds e exactly where Reads holds of e, so nothing of it
+-- is to be believed. Assumes nothing: these are definitions.
 use Prim.Native.Nat.{ℕ, zero, suc}
 use mathlib.Core.Bool.{Bool, true, false, cond}
 use mathlib.Core.List.{List, [], _∷_}
@@ -85,7 +86,7 @@ unfoldable pub abstracted : Read → Read
 abstracted nothing = nothing
 abstracted (read e r) = read (abs e) r
 
--- what stands in parentheses
+-- the closing parenthesis after an expression
 unfoldable pub enclosed : Expression → List Token → Read
 enclosed e [] = nothing
 enclosed e (caret ∷ r) = nothing
@@ -99,7 +100,7 @@ enclosed e (ampersand ∷ r) = nothing
 enclosed e (bar ∷ r) = nothing
 enclosed e (arrow ∷ r) = nothing
 
--- the tokens after a full stop
+-- a full stop, and what f reads after it
 unfoldable pub body : (List Token → Read) → List Token → Read
 body f [] = nothing
 body f (caret ∷ r) = nothing
@@ -127,6 +128,7 @@ binder f (ampersand ∷ r) = nothing
 binder f (bar ∷ r) = nothing
 binder f (arrow ∷ r) = nothing
 
+-- what stands in parentheses, if one more may be opened
 unfoldable pub inside : (ℕ → List Token → Read) → ℕ → List Token → Read
 inside f zero ts = nothing
 inside f (suc d) ts = follow (f d ts) enclosed
@@ -185,3 +187,17 @@ more d Γ p e ts = next (suc (length ts)) d Γ p e ts
 
 unfoldable pub operand : ℕ → List ℕ → List Token → Read
 operand d Γ ts = operandBy (λ k Δ. parse k Δ empty) d Γ ts
+
+-- the tokens begin an operand
+abbrev pub Starts : List Token → Type 0
+Starts [] = ⊥
+Starts (caret ∷ r) = Unit {0}
+Starts (name x ∷ r) = Unit {0}
+Starts (opening ∷ r) = Unit {0}
+Starts (closing ∷ r) = ⊥
+Starts (backslash ∷ r) = Unit {0}
+Starts (stop ∷ r) = ⊥
+Starts (bang ∷ r) = ⊥
+Starts (ampersand ∷ r) = ⊥
+Starts (bar ∷ r) = ⊥
+Starts (arrow ∷ r) = ⊥

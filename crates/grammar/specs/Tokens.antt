@@ -13,6 +13,7 @@ pub data Token : Type 0 where
 abbrev pub Letter : ℕ → Type 0
 Letter b = (97 ≤ b) × (b ≤ 122)
 
+-- a text that does not begin with a letter
 abbrev pub NoLetter : List ℕ → Type 0
 NoLetter [] = Unit {0}
 NoLetter (b ∷ l) = Letter b → ⊥
@@ -27,7 +28,7 @@ unfoldable pub nameNumber : ℕ → List ℕ → ℕ
 nameNumber n [] = n
 nameNumber n (b ∷ x) = nameNumber (n * 256 + b) x
 
--- the byte of each token that is no name
+-- the byte of each token that is no name: ^ ( \ ) . ! & | >
 pub data Sign : ℕ → Token → Type 0 where
   is-caret : Sign 94 caret
   is-opening : Sign 40 opening

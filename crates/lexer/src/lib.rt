@@ -7,7 +7,7 @@ ghost use lib.ListN.{length, take};
 ghost use Rattle.grammar.specs.Words.{letter, isSign, lex};
 ghost use Rattle.lexer.specs.Code.{Flushed, Lexes};
 
-// How many words a text is, or that it spells none.
+// How many words a text is, or that it spells no tokens at all.
 pub enum Lexed {
     Words(usize),
     Broken,

@@ -1,17 +1,18 @@
 -- Laws of what stands between two operands, and of symbols written. Assumes nothing.
 use Prim.Native.Nat.{ℕ, suc, _+_, _≤_, _<_}
 use mathlib.Core.Path.{_≡_, refl, ap, _∙_}
+use mathlib.Core.Bool.{Bool, true, false}
 use mathlib.Core.List.{List, [], _∷_, _++_, append-assoc, append-nil}
 use native.Mathlib.Omega.{arith}
 use native.Mathlib.Numerals.{add-one}
 use lib.ListN.{length, getD, take, drop, set, replicate, replicate-append-replicate, length-append, length-replicate}
 use lib.Seq.{take-suc-set}
-use lib.Dec.{eqb}
-use borrow.Author.Tests.{ne-eqb}
+use lib.Dec.{eqb, ltb}
+use borrow.Author.Tests.{ne-eqb, ltb-true, ltb-false}
 use Rattle.grammar.specs.Tokens.{Token}
-use Rattle.grammar.specs.Reader.{Unclosed, unclosed, parse}
+use Rattle.grammar.specs.Reader.{Unclosed, unclosed, parse, Starts}
 use Rattle.grammar.specs.Words.{token, tokens}
-use Rattle.grammar.proofs.Enough.{Starts, NotBang, parse-any, parse-bang, more-end, more-closing, more-stop, more-bang}
+use Rattle.grammar.proofs.Enough.{NotBang, parse-any, parse-bang, more-end, more-closing, more-stop, more-bang}
 use Rattle.grammar.proofs.Places.{tokens-at, tokens-end, is-closing, is-stop, is-bang, pick}
 use Rattle.operators.specs.Code.{Wrote, JointAt, notedBy, Bangs}
 use Rattle.operators.specs.declared.Joint.the-variants as joint
@@ -44,20 +45,27 @@ module _ (ws : List ℕ) (at : ℕ) where
 -- n of the words from a place on are !
 pub record Passed (ws : List ℕ) (from n : ℕ) : Type 0 where
   pub within : from + n ≤ length ws
+  pub all : (i : ℕ) → i < n → getD ws (from + i) 0 ≡ 33
   pub leads : (d : ℕ) (Γ : List ℕ) (p : Unclosed) → parse d Γ p (tokens (drop from ws)) ≡ parse d Γ (notedBy n p) (tokens (drop (from + n) ws))
 
 pub passed-none : (ws : List ℕ) (from : ℕ) → from ≤ length ws → Passed ws from 0
 passed-none ws from h = record {
   within = omega arith;
+  all = λ i l. absurd (omega arith);
   leads = λ d Γ p.
       let e : p .nots + 0 ≡ p .nots = omega arith in
       let f : from + 0 ≡ from = omega arith in
       rw (e, f);
 }
 
+passed-all : (ws : List ℕ) (from n : ℕ) → Passed ws from n → getD ws (from + n) 0 ≡ 33 → (i : ℕ) → i < n + 1 → (z : Bool) → ltb i n ≡ z → getD ws (from + i) 0 ≡ 33
+passed-all ws from n q e i l true z = q .all i (ltb-true i n z)
+passed-all ws from n q e i l false z = let k : n ≡ i = omega (arith, ltb-false i n z) in rw k at e
+
 pub passed-more : (ws : List ℕ) (from n : ℕ) → Passed ws from n → from + n < length ws → getD ws (from + n) 0 ≡ 33 → Passed ws from (n + 1)
 passed-more ws from n q h e = record {
   within = omega arith;
+  all = λ i l. passed-all ws from n q e i l (ltb i n) refl;
   leads = λ d Γ p.
       let k : suc (p .nots + n) ≡ p .nots + (n + 1) = omega arith in
       let l : from + n + 1 ≡ from + (n + 1) = omega arith in
@@ -66,14 +74,14 @@ passed-more ws from n q h e = record {
       ∙ ap (λ (i : ℕ). parse d Γ (notedBy (n + 1) p) (tokens (drop i ws))) l;
 }
 
-stopped : (ws : List ℕ) (from n : ℕ) → Passed ws from n → NotBang (tokens (drop (from + n) ws)) → Bangs ws from n
-stopped ws from n q h = record { within = q .within; leads = λ d Γ p. q .leads d Γ p ∙ parse-any d Γ (notedBy n p) _ h }
+stopped : (ws : List ℕ) (from n : ℕ) → Passed ws from n → (from + n < length ws → getD ws (from + n) 0 ≡ 33 → ⊥) → NotBang (tokens (drop (from + n) ws)) → Bangs ws from n
+stopped ws from n q k h = record { within = q .within; all = q .all; ends = k; leads = λ d Γ p. q .leads d Γ p ∙ parse-any d Γ (notedBy n p) _ h }
 
 pub stopped-end : (ws : List ℕ) (from n : ℕ) → Passed ws from n → length ws ≤ from + n → Bangs ws from n
-stopped-end ws from n q h = stopped ws from n q (rw (tokens-end ws (from + n) h) tt)
+stopped-end ws from n q h = stopped ws from n q (λ l k. omega arith) (rw (tokens-end ws (from + n) h) tt)
 
 pub stopped-other : (ws : List ℕ) (from n : ℕ) → Passed ws from n → from + n < length ws → (getD ws (from + n) 0 ≡ 33 → ⊥) → Bangs ws from n
-stopped-other ws from n q h e = stopped ws from n q (rw (tokens-at ws (from + n) h) (not-bang (getD ws (from + n) 0) (tokens (drop (from + n + 1) ws)) e))
+stopped-other ws from n q h e = stopped ws from n q (λ l. e) (rw (tokens-at ws (from + n) h) (not-bang (getD ws (from + n) 0) (tokens (drop (from + n + 1) ws)) e))
 
 -- one symbol more
 pub put-more : (l m : List ℕ) (w i s : ℕ) → take (w + i) m ≡ take w l ++ replicate i s → w + i < length m

@@ -3,13 +3,12 @@ use Prim.Native.Nat.{ℕ, zero, suc, _+_, _*_, _≤_, _<_}
 use mathlib.Core.Path.{_≡_}
 use mathlib.Core.List.{List, [], _∷_, _++_}
 use mathlib.Core.Option.{Option, none, some}
-use lib.ListN.{length, take, drop}
+use lib.ListN.{length, getD, take, drop}
 use Rattle.grammar.specs.Expression.{Expression, app}
 use Rattle.grammar.specs.Tokens.{ampersand, bar, arrow}
-use Rattle.grammar.specs.Reader.{Read, nothing, read, Unclosed, unclosed, closed, follow, parse, more, operand}
+use Rattle.grammar.specs.Reader.{Read, nothing, read, Unclosed, unclosed, closed, follow, parse, more, operand, Starts}
 use Rattle.grammar.specs.Words.{tokens}
 use Rattle.grammar.specs.Postfix.{postfix}
-use Rattle.grammar.proofs.Enough.{Starts}
 use Rattle.operators.specs.declared.Joint.{Joint}
 use Rattle.operators.specs.declared.Joint.the-variants as joint
 use Rattle.operators.specs.declared.Waiting.{Waiting}
@@ -35,9 +34,11 @@ JointAt ws at joint.Broken = (d : ℕ) (Γ : List ℕ) (p : Unclosed) (e : Expre
 abbrev pub notedBy : ℕ → Unclosed → Unclosed
 notedBy n p = unclosed (p .implies) (p .or) (p .and) (p .nots + n)
 
--- n times ! from a place on, and then no more
+-- n times ! from a place on, and then no more; and so what the reader makes of them
 pub record Bangs (ws : List ℕ) (from n : ℕ) : Type 0 where
   pub within : from + n ≤ length ws
+  pub all : (i : ℕ) → i < n → getD ws (from + i) 0 ≡ 33
+  pub ends : from + n < length ws → getD ws (from + n) 0 ≡ 33 → ⊥
   pub leads : (d : ℕ) (Γ : List ℕ) (p : Unclosed)
       → parse d Γ p (tokens (drop from ws)) ≡ follow (operand d Γ (tokens (drop (from + n) ws))) (λ a s. more d Γ (notedBy n p) a s)
 
@@ -79,8 +80,14 @@ pub record Counts (w : Waiting) (p : Unclosed) (f : Option Expression) : Type 0 
 abbrev pub sum : Waiting → ℕ
 sum w = w .implies + w .ors + w .ands + w .nots + w .apps
 
--- Room for the symbols is a matter of the words read: two symbols for each.
+-- Some operand a was read, and its symbols stand after those of what waits for it. Room for symbols is a matter of the words read: two for each.
 pub record AfterAsks (ws : List ℕ) (at : ℕ) (post : List ℕ) (from : ℕ) (w : Waiting) : Type 0 where
+  pub p : Unclosed
+  pub f : Option Expression
+  pub a : Expression
+  pub xs : List ℕ
+  pub counts : Counts w p f
+  pub front : take from post ≡ xs ++ (flat p f ++ postfix a)
   pub within : at ≤ length ws
   pub few : length ws ≤ 8192
   pub space : 2 * length ws ≤ length post
@@ -103,11 +110,13 @@ pub record Finished (x : Read) (xs ws post : List ℕ) (at end : ℕ) : Type 0 w
   pub front : take end post ≡ xs ++ postfix e
   pub inside : end ≤ length post
 
+-- what each step says of the reader
 abbrev pub Stepped : ℕ → List ℕ → Read → List ℕ → List ℕ → List ℕ → ℕ → Step → Type 0
 Stepped d Γ x xs ws post at (step.More w) = Goes d Γ x xs ws post w × (at ≤ w .at)
 Stepped d Γ x xs ws post at (step.Done b) = Finished x xs ws post at b
 Stepped d Γ x xs ws post at step.Broken = x ≡ nothing
 
+-- for whatever operand stands there, the step from what the reader is at after it
 unfoldable pub Afters : ℕ → List ℕ → Unclosed → Option Expression → Expression → List ℕ → List ℕ → ℕ → List ℕ → ℕ → Waiting → Step → List ℕ → Type 0
 Afters d Γ p f a xs ws at post from w r m =
     Counts w p f → take from post ≡ xs ++ (flat p f ++ postfix a)

@@ -97,8 +97,17 @@ module _ (ws : List ℕ) (at d : ℕ) (names₀ : List ℕ) (k : ℕ) (post₀ :
       pub carried-further : W .at < next
       carried-further = omega (arith, taken)
 
+      front : take e m ≡ take w post₀ ++ (flat (v .goes .p) (v .goes .f) ++ postfix (o .e))
+      front = o .wrote .front ∙ ap (λ (l : List ℕ). l ++ postfix (o .e)) (v .goes .front) ∙ append-assoc (take w post₀) (flat (v .goes .p) (v .goes .f)) (postfix (o .e))
+
       pub carried-after : length m ≡ length post → AfterAsks ws next m e W
       carried-after l = record {
+        p = v .goes .p;
+        f = v .goes .f;
+        a = o .e;
+        xs = take w post₀;
+        counts = v .goes .counts;
+        front = front;
         within = o .within;
         few = q .few;
         space = omega (arith, q .space, v .post-length);
@@ -109,9 +118,6 @@ module _ (ws : List ℕ) (at d : ℕ) (names₀ : List ℕ) (k : ℕ) (post₀ :
       unfolding follow
       leads = v .goes .leads ∙ ap (λ (z : Read). follow z (λ a s. more d (drop k names₀) (v .goes .p) (applied (v .goes .f) a) s))
           (subst (λ (Γ : List ℕ). operand d Γ (tokens (drop (W .at) ws)) ≡ read (o .e) (tokens (drop next ws))) (v .same) (o .leads))
-
-      front : take e m ≡ take w post₀ ++ (flat (v .goes .p) (v .goes .f) ++ postfix (o .e))
-      front = o .wrote .front ∙ ap (λ (l : List ℕ). l ++ postfix (o .e)) (v .goes .front) ∙ append-assoc (take w post₀) (flat (v .goes .p) (v .goes .f)) (postfix (o .e))
 
       module _ (r : Step) (l : List ℕ)
           (s : Afters d (drop k names₀) (v .goes .p) (v .goes .f) (o .e) (take w post₀) ws next m e W r l) where

@@ -43,7 +43,7 @@ fn give(post: &[u16], end: usize, out: &mut [u8]) -> Encoded
     Encoded::Bytes(n)
 }
 
-// Reads words: 12 where they are no expression, or more than one.
+// Reads words: 12 where they are no expression, or something follows one.
 fn read_words(words: &[u64], names: &mut [u64], post: &mut [u16], out: &mut [u8]) -> Encoded
     requires { ⌜ WordRoom (now words) (now names) (now post) ⌝ }
     ensures { λ r. ⌜ wholeOut r [] [] (now (out .exit)) ≡ ofReading (ofWords (some (now (words .entry)))) (now (out .entry)) ⌝ }

@@ -21,7 +21,7 @@ pub enum Refusal {
     Nodes,
     // every frame is held
     Frames,
-    // the out bytes are full
+    // the out bytes are full, or too few
     Out,
     // a rule text has no reading
     RuleText,

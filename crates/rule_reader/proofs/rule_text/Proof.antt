@@ -1,89 +1,63 @@
+-- `rule_reader::rule_text` meets its contract: the text's length. Assumes nothing.
 use Rattle.rule_reader.proofs.Giving.{text-long}
 use borrow.Author.Needs.{needs}
 use Rattle.rule_reader.proofs.rule_text.Statement.{statement}
 use Rattle.rule_reader.proofs.rule_text.Tie as tie
-use Rattle.rule_reader.proofs.rule_text.Reads as reads
-use Rattle.rule_reader.proofs.rule_text.Lts as lts
-use Rattle.rule_reader.proofs.read_1024.Reads as read-1024-reads
-use Rattle.rule_reader.proofs.read_128.Reads as read-128-reads
-use Rattle.rule_reader.proofs.read_2048.Reads as read-2048-reads
-use Rattle.rule_reader.proofs.read_32.Reads as read-32-reads
-use Rattle.rule_reader.proofs.read_512.Reads as read-512-reads
-use Rattle.rule_reader.proofs.read_8192.Reads as read-8192-reads
 
--- src/lib.rt:150:9
 returns : tie.Need-returns
 returns c = text-long _ _ (c .if1 .taken)
 
--- src/lib.rt:153:9
 read-32-requires : tie.Need-read-32-requires
 read-32-requires c κs = search needs
 
--- src/lib.rt:153:9
 same-length : tie.Need-same-length
 same-length c = search needs
 
--- src/lib.rt:153:9
 returns-2 : tie.Need-returns-2
 returns-2 c = search needs
 
--- src/lib.rt:156:9
 read-128-requires : tie.Need-read-128-requires
 read-128-requires c κs = search needs
 
--- src/lib.rt:156:9
 same-length-2 : tie.Need-same-length-2
 same-length-2 c = search needs
 
--- src/lib.rt:156:9
 returns-3 : tie.Need-returns-3
 returns-3 c = search needs
 
--- src/lib.rt:159:9
 read-512-requires : tie.Need-read-512-requires
 read-512-requires c κs = search needs
 
--- src/lib.rt:159:9
 same-length-3 : tie.Need-same-length-3
 same-length-3 c = search needs
 
--- src/lib.rt:159:9
 returns-4 : tie.Need-returns-4
 returns-4 c = search needs
 
--- src/lib.rt:162:9
 read-1024-requires : tie.Need-read-1024-requires
 read-1024-requires c κs = search needs
 
--- src/lib.rt:162:9
 same-length-4 : tie.Need-same-length-4
 same-length-4 c = search needs
 
--- src/lib.rt:162:9
 returns-5 : tie.Need-returns-5
 returns-5 c = search needs
 
--- src/lib.rt:165:9
 read-2048-requires : tie.Need-read-2048-requires
 read-2048-requires c κs = search needs
 
--- src/lib.rt:165:9
 same-length-5 : tie.Need-same-length-5
 same-length-5 c = search needs
 
--- src/lib.rt:165:9
 returns-6 : tie.Need-returns-6
 returns-6 c = search needs
 
--- src/lib.rt:167:5
 read-8192-requires : tie.Need-read-8192-requires
 read-8192-requires c κs = search needs
 
--- src/lib.rt:145:1
 same-length-6 : tie.Need-same-length-6
 same-length-6 c = search needs
 
--- src/lib.rt:145:1
 returns-7 : tie.Need-returns-7
 returns-7 c = search needs
 

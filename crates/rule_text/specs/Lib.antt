@@ -1,0 +1,2 @@
+-- What the program prints. Assumes nothing: these are definitions.
+pub mod Line
