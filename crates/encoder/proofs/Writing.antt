@@ -1,17 +1,17 @@
 -- Laws of an expression by its last symbol. Assumes nothing.
-use Prim.Native.Nat.{ℕ, zero, suc, _+_, _*_, _-_, _≤_, _<_, max}
-use mathlib.Core.Path.{_≡_, refl, sym, ap, subst, _∙_}
-use mathlib.Core.List.{List, [], _∷_, _++_, append-assoc, append-nil}
+use Prim.Native.Nat.{ℕ, suc, _+_, _-_, _≤_, _<_, max}
+use mathlib.Core.Path.{_≡_, refl, sym, ap, _∙_}
+use mathlib.Core.List.{List, [], _∷_, _++_, append-assoc}
 use native.Mathlib.Omega.{arith}
 use lib.ListN.{length, getD, take, drop, length-append}
 use lib.Seq.{length-take-le}
 use Rattle.calculus.specs.Term.{nesting}
 use Rattle.calculus.specs.Bytes.{bytes}
 use Rattle.grammar.specs.Expression.{Expression, leaf, var, app, abs, not, and, or, implies}
-use Rattle.grammar.specs.Meaning.{termOf, two, K, I, stemOfStem, andTree, orTree, impliesTree, notTree}
+use Rattle.grammar.specs.Meaning.{termOf, K, I, stemOfStem, andTree, orTree, impliesTree, notTree}
 use Rattle.grammar.specs.Postfix.{postfix, lead}
 use Rattle.encoder.specs.Code.{Laid, Small, EncodeAt, EncodeGives, Nests}
-use Rattle.encoder.proofs.Storing.{Last, last, beginning}
+use Rattle.encoder.proofs.Storing.{Last, last, beginning, kept-less}
 
 unfoldable pub symbol : Expression → ℕ
 symbol leaf = 6
@@ -196,6 +196,9 @@ module _ (e : Expression) (xs post : List ℕ) (p : ℕ) (out : List ℕ) (o : �
                     d′ .stored ∙ ap (λ (x : List ℕ). lead (symbol e) ++ x) (g′ .laid .stored ∙ ap (λ (x : List ℕ). bytes (termOf (two-parts .f)) ++ x) (g .laid .stored) ∙ sym (append-assoc (bytes (termOf (two-parts .f))) (bytes (termOf (two-parts .a))) (drop o out)))
                     ∙ sym (append-assoc (lead (symbol e)) (bytes (termOf (two-parts .f)) ++ bytes (termOf (two-parts .a))) (drop o out))
                     ∙ ap (λ (x : List ℕ). x ++ drop o out) (sym (two-parts .code));
+                kept =
+                    d′ .kept ∙ kept-less r at′ n m (omega (arith, d′ .ends)) (g′ .laid .kept)
+                    ∙ kept-less r at m out (omega (arith, d′ .ends, g′ .laid .ends)) (g .laid .kept);
               };
             }
 
@@ -230,6 +233,7 @@ module _ (e : Expression) (xs post : List ℕ) (p : ℕ) (out : List ℕ) (o : �
                   d′ .stored ∙ ap (λ (x : List ℕ). lead (symbol e) ++ x) (g .laid .stored)
                   ∙ sym (append-assoc (lead (symbol e)) (bytes (termOf (one-part .a))) (drop o out))
                   ∙ ap (λ (x : List ℕ). x ++ drop o out) (sym (one-part .code));
+              kept = d′ .kept ∙ kept-less r at m out (omega (arith, d′ .ends)) (g .laid .kept);
             };
           }
 

@@ -1,7 +1,7 @@
 -- What the functions ask and give, in terms of the term and its bytes. Assumes nothing: these are definitions.
 use Prim.Native.Nat.{ℕ, _+_, _≤_, _<_}
 use mathlib.Core.Path.{_≡_}
-use mathlib.Core.List.{List, [], _∷_, _++_}
+use mathlib.Core.List.{List, _++_}
 use lib.ListN.{length, take, drop}
 use Rattle.calculus.specs.Term.{nesting}
 use Rattle.calculus.specs.Bytes.{bytes}
@@ -9,10 +9,11 @@ use Rattle.grammar.specs.Expression.{Expression, leaf, var, app, abs, not, and,
 use Rattle.grammar.specs.Meaning.{termOf}
 use Rattle.grammar.specs.Postfix.{postfix}
 
--- xs are written before o, from r on
+-- xs are written before o, from r on, and nothing else changes
 pub record Laid (l : List ℕ) (o : ℕ) (xs : List ℕ) (r : ℕ) (m : List ℕ) : Type 0 where
   pub ends : r + length xs ≡ o
   pub stored : drop r m ≡ xs ++ drop o l
+  pub kept : take r m ≡ take r l
 
 -- every variable fits a byte
 abbrev pub Small : Expression → Type 0

@@ -1,19 +1,15 @@
 -- What the grammar allows, the reader reads: so a text has at most one reading. Assumes nothing.
-use Prim.Native.Nat.{ℕ, zero, suc, _+_, _≤_, _<_}
-use mathlib.Core.Path.{_≡_, refl, sym, ap, _∙_}
-use mathlib.Core.Bool.{Bool, true, false, cond}
+use Prim.Native.Nat.{ℕ}
+use mathlib.Core.Path.{_≡_, refl, ap, _∙_}
 use mathlib.Core.List.{List, [], _∷_}
 use mathlib.Core.Option.{Option, none, some}
-use native.Mathlib.Omega.{arith}
-use lib.ListN.{length}
-use lib.Dec.{eqb}
 use borrow.Author.Tests.{eq-eqb, ne-eqb}
-use Rattle.grammar.specs.Expression.{Expression, app, abs, not, and, or, implies}
+use Rattle.grammar.specs.Expression.{Expression, app, not, and, or, implies}
 use Rattle.grammar.specs.Tokens.{Token, caret, name, opening, closing, backslash, stop, bang, ampersand, bar, arrow}
 use Rattle.grammar.specs.Grammar.{Bound, nearest, farther, Ends, of-text, of-group, Level, Reads, the-leaf, the-name, group, abstraction, one-operand, applied, one-application, negated, one-negation, both, one-conjunction, either, one-disjunction, follows}
 use Rattle.grammar.specs.Reader as reader
-use Rattle.grammar.specs.Reader.{Read, nothing, read, Unclosed, unclosed, empty, noted, conjoined, disjoined, implied, up, lookup, variable, follow, abstracted, enclosed, body, binder, inside, operandBy, start, next, parse, more, operand, Starts}
-use Rattle.grammar.proofs.Enough.{parse-bang, parse-operand, more-operand, more-end, more-closing, more-ampersand, more-bar, more-arrow}
+use Rattle.grammar.specs.Reader.{Read, read, Unclosed, unclosed, empty, noted, conjoined, disjoined, implied, up, lookup, variable, follow, abstracted, enclosed, body, binder, inside, operandBy, next, parse, more, operand, Starts}
+use Rattle.grammar.proofs.Enough.{parse-bang, parse-operand, more-operand, more-closing, more-ampersand, more-bar, more-arrow}
 
 -- what may follow a negation or a conjunction, a disjunction, an expression
 abbrev pub AfterAnd : List Token → Type 0

@@ -1,9 +1,9 @@
 -- The outcome of reading a rule text is what the grammar gives, and Translate takes its bytes. Assumes nothing.
-use Prim.Native.Nat.{ℕ, _≤_, _<_}
+use Prim.Native.Nat.{ℕ, _≤_}
 use mathlib.Core.Path.{_≡_, refl, sym, ap, ap₂, subst, _∙_}
 use mathlib.Core.Logic.{_↔_}
 use mathlib.Core.Bool.{Bool, true, false, cond}
-use mathlib.Core.List.{List, [], _∷_, _++_}
+use mathlib.Core.List.{List}
 use mathlib.Core.Option.{Option, none, some}
 use native.Mathlib.Omega.{arith}
 use lib.ListN.{length, take}
@@ -16,7 +16,7 @@ use Rattle.calculus.specs.Abstraction.{ruleTree}
 use Rattle.calculus.proofs.Rule.{rule-exact, bytes-unique}
 use Rattle.table.specs.Outcome.{Outcome}
 use Rattle.table.specs.Claims.{Lays}
-use Rattle.table.specs.declared.Refusal.the-variants.{Rule, Out, RuleText}
+use Rattle.table.specs.declared.Refusal.the-variants.{Out}
 use Rattle.table.proofs.Words.{zero-one}
 use Rattle.translation.specs.Translate.{translate}
 use Rattle.translation.proofs.Translates.{translate-gives}
@@ -26,7 +26,7 @@ use Rattle.grammar.specs.Text.{IsText, readText}
 use Rattle.grammar.specs.Outcome.{refusedText, givenBytes, Gives, no-reading, no-rule, no-room, fits, intoOut, ofBytes, ofReading, ruleText}
 use Rattle.grammar.specs.Claims.{Encodes}
 use Rattle.grammar.specs.declared.Encoded.{Encoded}
-use Rattle.grammar.specs.declared.Encoded.the-variants.{Bytes, Refused}
+use Rattle.grammar.specs.declared.Encoded.the-variants.{Bytes}
 use Rattle.grammar.proofs.Text.{text-exact, text-unique}
 
 some-one : {t u : Term} → _≡_ {A = Option Term} (some t) (some u) → t ≡ u

@@ -8,4 +8,5 @@ pub mod Text
 pub mod TwoKinds
 pub mod Names
 pub mod Exact
+pub mod Vectors
 pub mod Places

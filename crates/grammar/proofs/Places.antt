@@ -6,7 +6,7 @@ use mathlib.Core.List.{List, [], _∷_}
 use native.Mathlib.Numerals.{add-one}
 use lib.ListN.{length, getD, drop, drop-of-length-le}
 use lib.Seq.{drop-cons}
-use Rattle.grammar.specs.Tokens.{Token, caret, name, opening, closing, backslash, stop, bang, ampersand, bar, arrow}
+use Rattle.grammar.specs.Tokens.{Token, caret, opening, closing, backslash, stop, bang, ampersand, bar, arrow}
 use Rattle.grammar.specs.Words.{token, tokens}
 
 pub tokens-at : (ws : List ℕ) (at : ℕ) → at < length ws → tokens (drop at ws) ≡ token (getD ws at 0) ∷ tokens (drop (at + 1) ws)

@@ -1,6 +1,6 @@
 -- What the reader reads, the grammar allows. Assumes nothing.
 use Prim.Native.Nat.{ℕ, zero, suc}
-use mathlib.Core.Path.{_≡_, refl, sym, ap, _∙_}
+use mathlib.Core.Path.{_≡_, refl}
 use mathlib.Core.Logic.{_↔_}
 use mathlib.Core.Bool.{Bool, true, false, cond}
 use mathlib.Core.List.{List, [], _∷_}
@@ -8,11 +8,11 @@ use mathlib.Core.Option.{Option, none, some}
 use lib.ListN.{length}
 use lib.Dec.{eqb}
 use borrow.Author.Tests.{eqb-true, eqb-false}
-use Rattle.grammar.specs.Expression.{Expression, app, abs, not, and, or, implies}
+use Rattle.grammar.specs.Expression.{Expression, app, and, or, implies}
 use Rattle.grammar.specs.Tokens.{Token, caret, name, opening, closing, backslash, stop, bang, ampersand, bar, arrow}
 use Rattle.grammar.specs.Grammar.{Bound, nearest, farther, Ends, of-text, of-group, Level, Reads, the-leaf, the-name, group, abstraction, one-operand, applied, one-application, negated, one-negation, both, one-conjunction, either, one-disjunction, follows}
 use Rattle.grammar.specs.Reader as reader
-use Rattle.grammar.specs.Reader.{Read, nothing, read, Unclosed, unclosed, empty, noted, conjunct, disjunct, closed, afterAnd, afterOr, afterImplies, conjoined, disjoined, implied, up, lookup, variable, follow, abstracted, enclosed, body, binder, inside, operandBy, start, next, parse, more, operand}
+use Rattle.grammar.specs.Reader.{Read, nothing, read, Unclosed, empty, noted, conjunct, disjunct, closed, afterAnd, afterOr, afterImplies, conjoined, disjoined, implied, up, lookup, variable, follow, abstracted, enclosed, body, binder, inside, operandBy, start, next, parse, operand}
 use Rattle.grammar.proofs.Complete.{complete}
 
 -- what waits was read from ts up to where the second list begins

@@ -1,6 +1,6 @@
 -- The reader finds the meaning of a text exactly where the grammar allows one, and there is one at most. Assumes nothing.
-use Prim.Native.Nat.{ℕ, suc, _+_, _≤_, _<_}
-use mathlib.Core.Path.{_≡_, refl, sym, ap, subst, _∙_}
+use Prim.Native.Nat.{ℕ, _≤_, _<_}
+use mathlib.Core.Path.{_≡_, refl, ap, _∙_}
 use mathlib.Core.Logic.{_↔_}
 use mathlib.Core.Bool.{Bool, true, false, cond}
 use mathlib.Core.List.{List, [], _∷_}
@@ -9,9 +9,9 @@ use native.Mathlib.Omega.{arith}
 use lib.ListN.{length}
 use lib.Dec.{leb}
 use borrow.Author.Tests.{leb-true, le-leb}
-use Rattle.calculus.specs.Term.{Term, ClosedUnder}
+use Rattle.calculus.specs.Term.{ClosedUnder}
 use Rattle.grammar.specs.Expression.{Expression}
-use Rattle.grammar.specs.Meaning.{termOf, two, K, I, stemOfStem, andTree, orTree, impliesTree, notTree}
+use Rattle.grammar.specs.Meaning.{termOf, K, I, stemOfStem, andTree, orTree, impliesTree, notTree}
 use Rattle.grammar.specs.Tokens.{Token, Spells}
 use Rattle.grammar.specs.Grammar.{Bound, nearest, farther, Level, Reads, the-leaf, the-name, group, abstraction, one-operand, applied, one-application, negated, one-negation, both, one-conjunction, either, one-disjunction, follows, of-text}
 use Rattle.grammar.specs.Words.{lex, tokens}

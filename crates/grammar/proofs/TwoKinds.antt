@@ -1,11 +1,10 @@
 -- The grammar in two kinds gives a whole text the same readings. Assumes nothing.
-use Prim.Native.Nat.{ℕ, suc}
-use mathlib.Core.Path.{_≡_, refl}
+use Prim.Native.Nat.{ℕ}
 use mathlib.Core.Logic.{_↔_}
 use mathlib.Core.List.{List, [], _∷_}
-use Rattle.grammar.specs.Expression.{Expression, leaf, var, app, abs, not, and, or, implies}
+use Rattle.grammar.specs.Expression.{Expression}
 use Rattle.grammar.specs.Tokens.{Token, caret, name, opening, closing, backslash, stop, bang, ampersand, bar, arrow}
-use Rattle.grammar.specs.Grammar.{Bound, Ends, of-text, of-group, Level, operand, application, negation, conjunction, disjunction, expression, Reads}
+use Rattle.grammar.specs.Grammar.{Ends, of-text, of-group, Level, operand, expression, Reads}
 use Rattle.grammar.specs.Grammar as grammar
 use Rattle.grammar.specs.TwoKinds.{Kind, closed, reaching, Phrase, the-leaf, the-name, group, abstraction, one-operand, one-application, one-negation, one-conjunction, one-disjunction, applied, negated, both, either, follows}
 

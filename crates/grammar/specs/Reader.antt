@@ -1,7 +1,7 @@
 -- The reader of tokens, which finds the reading of a text. The theorem `exact` says that it finds e exactly where Reads holds of e, so nothing of it
 -- is to be believed. Assumes nothing: these are definitions.
 use Prim.Native.Nat.{ℕ, zero, suc}
-use mathlib.Core.Bool.{Bool, true, false, cond}
+use mathlib.Core.Bool.{cond}
 use mathlib.Core.List.{List, [], _∷_}
 use mathlib.Core.Option.{Option, none, some}
 use lib.ListN.{length}

@@ -1,6 +1,6 @@
 -- The same grammar in two kinds ([3]). Assumes nothing: these are definitions.
 use Prim.Native.Nat.{ℕ, suc}
-use mathlib.Core.List.{List, [], _∷_}
+use mathlib.Core.List.{List, _∷_}
 use Rattle.grammar.specs.Tokens.{Token, caret, name, opening, closing, backslash, stop, bang, ampersand, bar, arrow}
 use Rattle.grammar.specs.Expression.{Expression, leaf, var, app, abs, not, and, or, implies}
 use Rattle.grammar.specs.Grammar.{Bound, Level, operand, application, negation, conjunction, disjunction, expression}

@@ -1,9 +1,8 @@
 // Rule text to words, one for each token. The spelling and the laws that callers cite are in the crate `grammar`; specs/ says what the functions ask
 // and give in its terms. Assumes nothing.
 ghost use mathlib.Core.Path.{_≡_};
-ghost use mathlib.Core.Bool.{Bool};
-ghost use Prim.Native.Nat.{ℕ, _+_, _≤_, _<_};
-ghost use lib.ListN.{length, take};
+ghost use Prim.Native.Nat.{_+_, _≤_, _<_};
+ghost use lib.ListN.{length};
 ghost use Rattle.grammar.specs.Words.{letter, isSign, lex};
 ghost use Rattle.lexer.specs.Code.{Flushed, Lexes};
 

@@ -1,13 +1,11 @@
 -- Laws of giving a term's bytes, and of reading words and text. Assumes nothing.
-use Prim.Native.Nat.{ℕ, zero, suc, _+_, _-_, _*_, _≤_, _<_, max}
+use Prim.Native.Nat.{ℕ, suc, _+_, _-_, _≤_, _<_}
 use mathlib.Core.Path.{_≡_, refl, sym, ap, subst, _∙_}
-use mathlib.Core.Bool.{Bool, true, false, cond}
 use mathlib.Core.List.{List, [], _∷_, _++_}
 use mathlib.Core.Option.{Option, none, some}
 use native.Mathlib.Omega.{arith}
 use lib.ListN.{length, getD, take, drop, drop-of-length-le}
 use lib.Seq.{drop-cons, length-take-le}
-use lib.Dec.{leb}
 use borrow.Author.Tests.{le-leb, lt-leb}
 use Rattle.calculus.specs.Term.{Term, ClosedUnder, nesting}
 use Rattle.calculus.specs.Bytes.{bytes, rule, IsRule}
@@ -15,9 +13,9 @@ use Rattle.calculus.proofs.Rule.{rule-exact, bytes-unique}
 use Rattle.table.specs.Outcome.{Outcome, wholeOut}
 use Rattle.table.specs.declared.Refusal.the-variants.{Rule, Out, RuleText}
 use Rattle.grammar.specs.Expression.{Expression, leaf, var, app, abs, not, and, or, implies}
-use Rattle.grammar.specs.Meaning.{termOf, two, K, I, stemOfStem, andTree, orTree, impliesTree, notTree}
-use Rattle.grammar.specs.Postfix.{postfix, lead, total}
-use Rattle.grammar.specs.Reader.{Read, nothing, read, empty, parse}
+use Rattle.grammar.specs.Meaning.{termOf, K, I, stemOfStem, andTree, orTree, impliesTree, notTree}
+use Rattle.grammar.specs.Postfix.{total}
+use Rattle.grammar.specs.Reader.{nothing, read, empty, parse}
 use Rattle.grammar.specs.Words.{tokens, token, lex}
 use Rattle.grammar.specs.Text.{allRead, ofWords, readText}
 use Rattle.grammar.specs.Outcome.{intoOut, ofBytes, ofReading, ruleText}

@@ -1,6 +1,6 @@
 -- Laws of hexadecimal, and that what was written lies within its array. Assumes nothing.
 use Prim.Native.Nat.{ℕ, suc, _+_, _-_, _*_, _/_, _%_, _≤_, _<_}
-use mathlib.Core.Path.{_≡_, refl, sym, ap, subst, _∙_}
+use mathlib.Core.Path.{_≡_, sym, ap, subst, _∙_}
 use mathlib.Core.List.{List, [], _∷_, _++_}
 use native.Mathlib.Omega.{arith}
 use lib.ListN.{length, getD, drop, set, length-append, length-set, drop-of-length-le}
@@ -32,7 +32,7 @@ spelled bytes line r j h l e =
     let first : getD m (2 * j) 0 ≡ x = getD-set-other (set line (2 * j) x) (2 * j + 1) (2 * j) y 0 (λ k. omega arith) ∙ getD-set-same line (2 * j) x 0 (omega arith) in
     let second : getD m (2 * j + 1) 0 ≡ y = getD-set-same (set line (2 * j) x) (2 * j + 1) y 0 c in
     let rest : drop (2 * (j + 1)) m ≡ digits (drop (j + 1) bytes) ++ r =
-        drop-set-lt (2 * (j + 1)) (set line (2 * j) x) (2 * j + 1) y (omega arith) ∙ drop-set-lt (2 * (j + 1)) line (2 * j) x (omega arith) ∙ e in
+    drop-set-lt (2 * (j + 1)) (set line (2 * j) x) (2 * j + 1) y (omega arith) ∙ drop-set-lt (2 * (j + 1)) line (2 * j) x (omega arith) ∙ e in
     let bytes-are : drop j bytes ≡ getD bytes j 0 ∷ drop (j + 1) bytes = drop-cons bytes j 0 h ∙ ap (λ (i : ℕ). getD bytes j 0 ∷ drop i bytes) s in
     drop-cons m (2 * j) 0 a
     ∙ ap (λ (i : ℕ). getD m (2 * j) 0 ∷ drop i m) p
@@ -56,8 +56,7 @@ high-digit n h = rw (le-ltb n 10 h)
 pub bytes-within : (text out : List ℕ) {a : Encoded} {x : List ℕ} {n : ℕ} → wholeOut a [] [] x ≡ ruleText text out → a ≡ Bytes n → (n ≤ length x) × (n ≤ 4096)
 bytes-within text out {a} {x} {n} e q =
     let g = given-bytes text out n (ap (λ (o : Outcome Encoded). o .answer) (sym e) ∙ q) in
-    let f = ap length (ap (λ (o : Outcome Encoded). o .out) (e ∙ g .given)) in
-    (
+    let f = ap length (ap (λ (o : Outcome Encoded). o .out) (e ∙ g .given)) in (
       omega (arith, g .counted, f, length-append (bytes (termOf (g .reading))) (drop (length (bytes (termOf (g .reading)))) out)),
       omega (arith, g .counted, g .is-rule .short),
     )

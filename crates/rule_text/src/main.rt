@@ -1,7 +1,7 @@
 // The program: a rule text on standard input, less one final newline; one line on standard output: refusal or 0, and the bytes of the term in
 // hexadecimal, or a dash.
 ghost use mathlib.Core.Path.{_≡_};
-ghost use Prim.Native.Nat.{ℕ, _*_, _≤_, _<_};
+ghost use Prim.Native.Nat.{_*_, _≤_, _<_};
 ghost use mathlib.Core.List.{_++_};
 ghost use lib.ListN.{length, drop};
 ghost use Rattle.rule_text.specs.Line.{digit, digits};

@@ -1,7 +1,6 @@
 -- `encoder::encode` meets its contract: the operands before their symbol, from the end. Assumes nothing.
 use native.Mathlib.Omega.{arith}
 use mathlib.Core.Path.{_∙_}
-use borrow.Author.Needs.{needs}
 use Rattle.encoder.proofs.Writing.{the-place, two-parts, right-at, left-at, left-before, lead-asks, two-written, one-part, only-at, lead-asks-one, one-written, lead-asks-none, none-written}
 use Prim.Native.Nat.{ℕ, _<_}
 use borrow.Fn.Kinds.{In}

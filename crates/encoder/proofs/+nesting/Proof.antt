@@ -1,10 +1,8 @@
 -- `encoder::nesting` meets its contract: the operands of a symbol. Assumes nothing.
-use Prim.Native.Nat.{_+_, max}
+use Prim.Native.Nat.{_+_}
 use mathlib.Core.List.{_++_}
 use Rattle.grammar.specs.Postfix.{postfix}
 use native.Mathlib.Omega.{arith}
-use mathlib.Core.Path.{_∙_, _≡_}
-use borrow.Author.Needs.{needs}
 use Rattle.encoder.proofs.Writing.{has-symbol, right-stands, left-stands, left-less, only-stands, deep-parts, deep-two, deep-body, deep-abs, deep-few, deep-operand, deep-not, deep-none}
 use Rattle.encoder.proofs.Storing.{six}
 use Prim.Native.Nat.{ℕ, _<_}

@@ -1,7 +1,7 @@
 -- `encoder::put_before` meets its contract: the bytes from their end. Assumes nothing.
 use native.Mathlib.Omega.{arith}
-use Prim.Native.Nat.{ℕ, _+_, _-_, _≤_}
-use mathlib.Core.Path.{_≡_, refl, ap}
+use Prim.Native.Nat.{_-_, _≤_}
+use mathlib.Core.Path.{_≡_, refl}
 use lib.ListN.{length, length-set}
 use Rattle.encoder.proofs.Storing.{Laying, laying-none, laying-more, laying-done}
 use Rattle.encoder.proofs.put_before.Statement.{statement}

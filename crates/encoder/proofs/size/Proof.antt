@@ -1,6 +1,6 @@
 -- `encoder::size` meets its contract: the symbols in turn. Assumes nothing.
 use native.Mathlib.Omega.{arith}
-use Prim.Native.Nat.{ℕ, _+_, _-_, _*_, _≤_}
+use Prim.Native.Nat.{ℕ, _-_, _*_, _≤_}
 use mathlib.Core.Path.{_≡_, refl, ap, _∙_}
 use lib.ListN.{take}
 use Rattle.grammar.specs.Postfix.{total}

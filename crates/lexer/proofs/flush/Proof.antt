@@ -1,5 +1,4 @@
 -- `lexer::flush` meets its contract: a name's word, where there is one. Assumes nothing.
-use native.Mathlib.Omega.{arith}
 use Rattle.lexer.proofs.Lexing.{flushed-none, flushed-name}
 use borrow.Author.Needs.{needs}
 use Rattle.lexer.proofs.flush.Statement.{statement}

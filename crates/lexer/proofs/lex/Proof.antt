@@ -2,8 +2,7 @@
 use native.Mathlib.Omega.{arith}
 use Prim.Native.Nat.{_-_}
 use mathlib.Core.Path.{_∙_, sym}
-use lib.ListN.{length, length-set}
-use borrow.Author.Needs.{needs}
+use lib.ListN.{length}
 use Rattle.lexer.proofs.Lexing.{Lexing, lexing-start, lexing-long, lexing-letter, lexing-space, lexing-broken, lexing-sign, lexing-done, lexes-broken, top-small}
 use Rattle.lexer.proofs.lex.Statement.{statement}
 use Rattle.lexer.proofs.lex.Tie as tie

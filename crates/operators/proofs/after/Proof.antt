@@ -1,6 +1,6 @@
 -- `operators::after` meets its contract: each joint. Assumes nothing.
 use native.Mathlib.Omega.{arith}
-use mathlib.Core.Path.{_∙_, subst}
+use mathlib.Core.Path.{subst}
 use Rattle.operators.specs.Code.{JointAt, Afters}
 use Rattle.operators.proofs.Waits.{put-end, close-end, step-operand, step-and, step-or, step-arrow, step-end}
 use borrow.Author.Needs.{needs}

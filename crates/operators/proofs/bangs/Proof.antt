@@ -1,7 +1,7 @@
 -- `operators::bangs` meets its contract: the words in turn. Assumes nothing.
 use Rattle.operators.proofs.Joints.{Passed, passed-none, passed-more, stopped-end, stopped-other}
 use native.Mathlib.Omega.{arith}
-use Prim.Native.Nat.{_+_, _-_, _≤_}
+use Prim.Native.Nat.{_+_, _-_}
 use lib.ListN.{length}
 use Rattle.operators.proofs.bangs.Statement.{statement}
 use Rattle.operators.proofs.bangs.Tie as tie

@@ -1,6 +1,5 @@
 -- `operators::close` meets its contract: one kind of operator after another. Assumes nothing.
 use native.Mathlib.Omega.{arith}
-use mathlib.Core.Path.{_∙_}
 use Rattle.operators.proofs.Joints.{wrote-then}
 use Rattle.operators.proofs.Waits.{put-end}
 use borrow.Author.Needs.{needs}

@@ -1,8 +1,8 @@
 -- `operators::put` meets its contract: the symbols in turn. Assumes nothing.
 use Rattle.operators.proofs.Joints.{put-more, put-none, put-done}
 use native.Mathlib.Omega.{arith}
-use Prim.Native.Nat.{ℕ, _+_, _-_, _≤_}
-use mathlib.Core.Path.{_≡_, refl, ap}
+use Prim.Native.Nat.{_+_, _-_, _≤_}
+use mathlib.Core.Path.{_≡_, refl}
 use mathlib.Core.List.{_++_}
 use lib.ListN.{length, take, replicate, length-set}
 use Rattle.operators.proofs.put.Statement.{statement}

@@ -1,5 +1,4 @@
 -- `rule_reader::read_text` meets its contract: words, and none. Assumes nothing.
-use native.Mathlib.Omega.{arith}
 use mathlib.Core.Path.{sym}
 use lib.Seq.{length-take-le}
 use Rattle.rule_reader.proofs.Giving.{text-broken, text-read, text-words, lexed-words, lexed-broken}

@@ -1,6 +1,5 @@
 -- `rule_text::digit` meets its contract: each half. Assumes nothing.
 use Rattle.rule_text.proofs.Spelling.{low-digit, high-digit}
-use native.Mathlib.Omega.{arith}
 use borrow.Author.Needs.{needs}
 use Rattle.rule_text.proofs.digit.Statement.{statement}
 use Rattle.rule_text.proofs.digit.Tie as tie
