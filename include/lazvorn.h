@@ -11,10 +11,11 @@
  * nothing else that is lent to it. There is no other condition: counts, node numbers and contents
  * that do not fit are refused by number.
  *
- * Each call writes five numbers to answer, in this order: refusal, node, used, steps, digits. A
- * refusal gives its number, used as at entry (0 for lazvorn_run), and 0 for the others. Refusals 1
- * to 6 leave all lent memory as found. Refusals 7 to 10 set the stack and the words of the nodes
- * made in the call to 0 and leave out as found. Success sets the stack to 0.
+ * Each call writes five numbers to answer, in this order: refusal, node, used, steps, digits; but
+ * for lazvorn_rule_text, which writes two. A refusal gives its number, used as at entry (0 for
+ * lazvorn_run), and 0 for the others. Refusals 1 to 6 and 12 leave all lent memory as found.
+ * Refusals 7 to 10 set the stack and the words of the nodes made in the call to 0 and leave out as
+ * found. Success sets the stack to 0.
  */
 #ifndef LAZVORN_H
 #define LAZVORN_H
@@ -46,7 +47,8 @@ enum {
     LAZVORN_NO_STEPS = 7,  /* the step limit is reached */
     LAZVORN_NO_NODES = 8,  /* a new node has no place */
     LAZVORN_NO_FRAMES = 9, /* every frame is held */
-    LAZVORN_NO_OUT = 10    /* the out bytes are full */
+    LAZVORN_NO_OUT = 10,   /* the out bytes are full, or too few */
+    LAZVORN_RULE_TEXT = 12 /* a rule text has no reading, or is too long or too deep */
 };
 
 /* Reads a text into the table. Gives node and used. Refusals 1, 2, 4, 8, 9. */
@@ -118,6 +120,18 @@ void lazvorn_run(
     const uint8_t *packet, /* the packet, at most 16,384 bytes */
     size_t packet_len,     /* how many bytes */
     size_t answer[5]);     /* the five numbers */
+
+/*
+ * Reads a rule text and writes the bytes of its term to out. Gives the refusal and how many bytes
+ * were written. Refusals 12, 5, 10, in this order; each leaves out as found. At most 1 MiB of stack
+ * is used, and that only where thousands of abstractions nest.
+ */
+void lazvorn_rule_text(
+    const uint8_t *text, /* the text, at most 8,192 bytes */
+    size_t text_len,     /* how many bytes */
+    uint8_t *out,        /* the out bytes; 4,096 are enough for any rule, and those past it stay */
+    size_t out_len,      /* how many bytes */
+    size_t answer[2]);   /* refusal, and bytes written */
 
 #ifdef __cplusplus
 }

@@ -1,9 +1,9 @@
 //! Sends packets to the built program, at each border of what it reads and lends, and compares all
 //! that it prints with the line that documents 01 and 02 give for the packet. The comments derive each
-//! line from the papers; the second evaluator, written from the papers too, must give the same. The
-//! exit status is 1 where anything differs.
+//! line from the papers; the second evaluator, written from the papers too, must give the same. Then
+//! texts go to the program that reads rule text. The exit status is 1 where anything differs.
 //!
-//! `program PATH`, in the gate `target/bin/lazvorn`.
+//! `program LAZVORN RULE_TEXT`, in the gate `target/bin/lazvorn target/bin/rule_text`.
 //!
 //! What the derivations use, with "used" for the nodes in use and "made" for the new ones of Apply:
 //! - A rule of k leaves and variables under one abstraction, m of them its variable, is a tree of
@@ -12,6 +12,8 @@
 //!   variables in the body. Each variable makes two nodes (I on N is ΔΔN on ΔN), and the planner's
 //!   uses of the leaf rule and of the stem rule make one each; nothing else does.
 //! - A node that is made is one that is used: a rule's tree, each argument's digits, and the made.
+
+mod rule_text;
 
 use compare::PAPERS;
 use std::io::{ErrorKind, Write};
@@ -309,24 +311,24 @@ fn steps() -> Vec<Case> {
 // ---- the program
 
 /// All that the program prints for an input, sent in one piece or two.
-fn printed(program: &Path, case: &Case) -> std::io::Result<String> {
+fn printed(program: &Path, input: &[u8], cut: Option<usize>) -> std::io::Result<String> {
     let mut child = Command::new(program)
         .stdin(Stdio::piped())
         .stdout(Stdio::piped())
         .spawn()?;
-    let mut input = child.stdin.take().expect("a pipe to the program");
-    let (first, second) = case.packet.split_at(case.cut.unwrap_or(0));
+    let mut pipe = child.stdin.take().expect("a pipe to the program");
+    let (first, second) = input.split_at(cut.unwrap_or(0));
     for piece in [first, second] {
         // The program need not read more than tells it that a packet is too long.
-        match input.write_all(piece).and_then(|()| input.flush()) {
+        match pipe.write_all(piece).and_then(|()| pipe.flush()) {
             Err(error) if error.kind() != ErrorKind::BrokenPipe => return Err(error),
             _ => {}
         }
-        if case.cut.is_some() {
+        if cut.is_some() {
             std::thread::sleep(PAUSE);
         }
     }
-    drop(input);
+    drop(pipe);
     let output = child.wait_with_output()?;
     if !output.status.success() {
         return Ok(format!("ended with {}", output.status));
@@ -343,7 +345,7 @@ fn shown(line: &str) -> String {
 /// Whether the program prints the line, and the second evaluator gives it.
 fn same(program: &Path, case: &Case) -> bool {
     let second = second::line(&second::run(&case.packet, second::PROGRAM, PAPERS));
-    let given = printed(program, case).unwrap_or_else(|error| error.to_string());
+    let given = printed(program, &case.packet, case.cut).unwrap_or_else(|error| error.to_string());
     let wanted = format!("{}\n", case.line);
     if given != wanted {
         println!(
@@ -385,14 +387,16 @@ fn compare(program: &Path) -> bool {
 }
 
 fn main() {
-    let Some(program) = std::env::args_os().nth(1).map(PathBuf::from) else {
-        eprintln!("usage: program PATH");
+    let paths: Vec<PathBuf> = std::env::args_os().skip(1).map(PathBuf::from).collect();
+    let [lazvorn, rule_text] = &paths[..] else {
+        eprintln!("usage: program LAZVORN RULE_TEXT");
         std::process::exit(2);
     };
+    let (lazvorn, rule_text) = (lazvorn.clone(), rule_text.clone());
     // The second evaluator recurses as deep as trees and frames go.
     let thread = std::thread::Builder::new().stack_size(1 << 28);
     let same = thread
-        .spawn(move || compare(&program))
+        .spawn(move || compare(&lazvorn) & rule_text::compare(&lazvorn, &rule_text))
         .expect("a thread")
         .join();
     if !matches!(same, Ok(true)) {
