@@ -13,6 +13,8 @@ mod measure;
 mod places;
 mod plain;
 mod plot;
+mod reader;
+mod rule_text;
 mod workloads;
 
 use compare::packets::{self, Case};
@@ -609,6 +611,7 @@ fn bench() {
     }
     apply();
     texts_and_rules();
+    rule_text::rule_text();
     packets();
     let lines = growth();
     print_growth(&lines);

@@ -85,6 +85,10 @@ pub fn quartiles(numbers: impl Iterator<Item = f64>) -> [f64; 3] {
 }
 
 impl Times {
+    pub fn best(&self) -> f64 {
+        self.seconds.iter().copied().fold(f64::INFINITY, f64::min)
+    }
+
     pub fn median(&self) -> f64 {
         quartiles(self.seconds.iter().copied())[1]
     }
