@@ -139,7 +139,7 @@ unfolding lookup up
 lookup-bound (nearest {x = x}) = rw (eq-eqb x x refl)
 lookup-bound (farther {x = x} {y = y} n b) = rw (ne-eqb x y n, lookup-bound b)
 
-ends-more : (d : ℕ) (Γ : List ℕ) (b : Expression) {r : List Token} → Ends r → more d Γ empty b r ≡ read b r
+pub ends-more : (d : ℕ) (Γ : List ℕ) (b : Expression) {r : List Token} → Ends r → more d Γ empty b r ≡ read b r
 unfolding more next reader.negated conjoined disjoined implied
 ends-more d Γ b of-text = refl
 ends-more d Γ b of-group = refl

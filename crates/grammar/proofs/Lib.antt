@@ -2,6 +2,7 @@
 pub mod Enough
 pub mod Complete
 pub mod Sound
+pub mod Abstractions
 pub mod Size
 pub mod Spelled
 pub mod Text

@@ -37,7 +37,7 @@ pub enum Step {
 }
 
 // So many symbols from `w` on; the place after them.
-fn put(post: &mut [u16], w: usize, count: usize, symbol: u16) -> usize
+pub fn put(post: &mut [u16], w: usize, count: usize, symbol: u16) -> usize
     requires { ⌜ w + count ≤ length (now post) ⌝ }
     ensures { λ r. ⌜ Wrote (now (post .entry)) w (replicate count symbol) r (now (post .exit)) ⌝ }
 {

@@ -2,9 +2,10 @@
 use Prim.Native.Nat.{ℕ, zero, suc, _+_, _*_, _-_, _≤_, _<_}
 use mathlib.Core.Path.{_≡_, refl, sym, ap, subst, _∙_}
 use mathlib.Core.Bool.{Bool, true, false, cond, not}
-use mathlib.Core.List.{List, [], _∷_, _++_}
+use mathlib.Core.List.{List, [], _∷_, _++_, append-assoc, append-nil}
 use native.Mathlib.Omega.{arith}
-use lib.ListN.{length, getD, drop, set, length-drop, length-set}
+use native.Mathlib.Numerals.{add-one}
+use lib.ListN.{length, getD, drop, set, replicate, length-drop, length-set}
 use lib.Seq.{drop-cons, drop-drop, getD-set-same, drop-set-lt}
 use lib.Dec.{ltb, eqb}
 use borrow.Author.Tests.{ltb-true, ltb-false, lt-ltb, le-ltb, eqb-true, eqb-false, eq-eqb, ne-eqb, not-true, not-false}
@@ -14,8 +15,11 @@ use Rattle.grammar.specs.Reader.{Read, nothing, read, empty, follow, abstracted
 use Rattle.grammar.specs.Words.{token, tokens}
 use Rattle.grammar.specs.Postfix.{postfix}
 use Rattle.grammar.proofs.Places.{tokens-at, tokens-end, tokens-length, is-opening, is-backslash, is-closing, is-stop, pick}
-use Rattle.operators.proofs.Joints.{wrote-one, wrote-then}
-use Rattle.parser.specs.Code.{IsName, IsBinder, Asks, Phrased, Tells, closeGroup, Room, Bodied}
+use Rattle.grammar.proofs.Abstractions.{parse-backslash, parse-abstraction}
+use Rattle.operators.specs.Code.{Wrote}
+use Rattle.operators.proofs.Joints.{wrote-then}
+use Rattle.operators.proofs.Waits.{put-end}
+use Rattle.parser.specs.Code.{IsName, IsBinder, abstractedBy, RowAsks, Row, Asks, Phrased, Tells, closeGroup, Room, Bodied}
 use Rattle.parser.specs.declared.Parsed.{Parsed}
 use Rattle.parser.specs.declared.Parsed.the-variants.{Phrase, Nothing}
 use Rattle.parser.proofs.Phrases.{parse-took}
@@ -116,45 +120,93 @@ module _ (ws : List ℕ) (at d : ℕ) (Γ : List ℕ) where
           pub binder-unstopped : (getD ws (at + 2) 0 ≡ 46 → ⊥) → operand d Γ (tokens (drop at ws)) ≡ nothing
           binder-unstopped n = named ∙ ap (body (λ ts. parse d (getD ws (at + 1) 0 ∷ Γ) empty ts)) (tokens-at ws (at + 2) (omega arith)) ∙ not-stop (getD ws (at + 2) 0) _ _ n
 
-          pub binder-body : getD ws (at + 2) 0 ≡ 46 → operand d Γ (tokens (drop at ws)) ≡ abstracted (parse d (getD ws (at + 1) 0 ∷ Γ) empty (tokens (drop (at + 3) ws)))
-          unfolding body
-          binder-body n =
-              let k : at + 2 + 1 ≡ at + 3 = omega arith in
-              named ∙ ap (body (λ ts. parse d (getD ws (at + 1) 0 ∷ Γ) empty ts)) (is-stop ws (at + 2) (omega arith) n)
-              ∙ ap (λ (j : ℕ). abstracted (parse d (getD ws (at + 1) 0 ∷ Γ) empty (tokens (drop j ws)))) k
-
--- whether a backslash opens an abstraction
-module _ (ws : List ℕ) (at : ℕ) (h : at < length ws) (e : getD ws at 0 ≡ 92) where
+-- whether an abstraction opens at a place
+module _ (ws : List ℕ) (at : ℕ) where
   pub no-binder-cut : length ws - at < 3 → IsBinder ws at false
-  no-binder-cut l = λ d Γ. binder-cut ws at d Γ h e l
+  no-binder-cut l = λ h e d Γ. binder-cut ws at d Γ h e l
+
+  pub no-binder-sign : (getD ws at 0 ≡ 92 → ⊥) → IsBinder ws at false
+  no-binder-sign n = λ h e d Γ. absurd (n e)
 
   module _ (l : 3 ≤ length ws - at) (b : Bool) (i : IsName (getD ws (at + 1) 0) b) where
     pub no-binder-name : not b ≡ true → IsBinder ws at false
-    no-binder-name z = λ d Γ. binder-unnamed ws at d Γ h e l b i z
+    no-binder-name z = λ h e d Γ. binder-unnamed ws at d Γ h e l b i z
 
-    pub binder-stop : not b ≡ false → (s : Bool) → eqb (getD ws (at + 2) 0) 46 ≡ s → IsBinder ws at s
-    binder-stop z true q = (l, subst (IsName (getD ws (at + 1) 0)) (not-false b z) i, eqb-true _ _ q)
-    binder-stop z false q = λ d Γ. binder-unstopped ws at d Γ h e l (subst (IsName (getD ws (at + 1) 0)) (not-false b z) i) (eqb-false _ _ q)
+    pub binder-stop : getD ws at 0 ≡ 92 → not b ≡ false → (s : Bool) → eqb (getD ws (at + 2) 0) 46 ≡ s → IsBinder ws at s
+    binder-stop e z true q = (l, e, subst (IsName (getD ws (at + 1) 0)) (not-false b z) i, eqb-true _ _ q)
+    binder-stop e z false q = λ h x d Γ. binder-unstopped ws at d Γ h x l (subst (IsName (getD ws (at + 1) 0)) (not-false b z) i) (eqb-false _ _ q)
 
-pub binder-true : (ws : List ℕ) (at : ℕ) (b : Bool) → IsBinder ws at b → not b ≡ false → IsBinder ws at true
-binder-true ws at b i z = subst (IsBinder ws at) (not-false b z) i
-
-pub binder-false : (ws : List ℕ) (at : ℕ) (b : Bool) → IsBinder ws at b → not b ≡ true → IsBinder ws at false
-binder-false ws at b i z = subst (IsBinder ws at) (not-true b z) i
+  binder-tokens : IsBinder ws at true → tokens (drop at ws) ≡ backslash ∷ (name (getD ws (at + 1) 0) ∷ (stop ∷ tokens (drop (at + 3) ws)))
+  binder-tokens i =
+      let j : at + 1 + 1 ≡ at + 2 = omega arith in
+      let k : at + 2 + 1 ≡ at + 3 = omega arith in
+      let a : at < length ws = omega (arith, i .0) in
+      let b : at + 1 < length ws = omega (arith, i .0) in
+      let c : at + 2 < length ws = omega (arith, i .0) in
+      rw (is-backslash ws at a (i .1), tokens-at ws (at + 1) b, i .2, j, is-stop ws (at + 2) c (i .3), k)
 
 -- one name more
-pub name-more : (ns : List ℕ) (k x : ℕ) → 0 < k → k ≤ length ns → drop (k - 1) (set ns (k - 1) x) ≡ x ∷ drop k ns
+name-more : (ns : List ℕ) (k x : ℕ) → 0 < k → k ≤ length ns → drop (k - 1) (set ns (k - 1) x) ≡ x ∷ drop k ns
 name-more ns k x h l =
     let i : k - 1 < length (set ns (k - 1) x) = simp length-set (omega arith) in
     let j : suc (k - 1) ≡ k = omega arith in
     drop-cons (set ns (k - 1) x) (k - 1) 0 i
     ∙ rw (getD-set-same ns (k - 1) x 0 (omega arith), j, drop-set-lt k ns (k - 1) x (omega arith))
 
-pub name-less : (ns ms : List ℕ) (k x : ℕ) → 0 < k → k ≤ length ns → drop (k - 1) ms ≡ drop (k - 1) (set ns (k - 1) x) → drop k ms ≡ drop k ns
-name-less ns ms k x h l e =
-    let j : k - 1 + 1 ≡ k = omega arith in
-    let y : drop (k - 1) ms ≡ x ∷ drop k ns = e ∙ name-more ns k x h l in
-    ap (λ (i : ℕ). drop i ms) (sym j) ∙ sym (drop-drop 1 (k - 1) ms) ∙ ap (drop 1) y
+-- n names less
+pub names-less : (ns ms : List ℕ) (k n : ℕ) → n ≤ k → drop (k - n) ms ≡ drop (k - n) ns → drop k ms ≡ drop k ns
+names-less ns ms k n h e =
+    let j : k - n + n ≡ k = omega arith in
+    ap (λ (i : ℕ). drop i ms) (sym j) ∙ sym (drop-drop n (k - n) ms) ∙ ap (drop n) e ∙ drop-drop n (k - n) ns ∙ ap (λ (i : ℕ). drop i ns) j
+
+-- a row of abstractions
+module _ (ws : List ℕ) (at : ℕ) (names : List ℕ) (k : ℕ) (q : RowAsks ws at names k) where
+  pub row-none : Row ws at names k 0 names
+  unfolding abstractedBy
+  row-none =
+      let i : at + 3 * 0 ≡ at = omega arith in
+      let j : k - 0 ≡ k = omega arith in
+      let e = is-backslash ws at (q .before) (q .opens) in
+      record {
+        within = omega (arith, q .before);
+        fits = omega arith;
+        kept = refl;
+        leads = λ d.
+            ap (operand d (drop k names)) e ∙ sym (parse-backslash d (drop k names) _) ∙ ap (parse d (drop k names) empty) (sym e)
+            ∙ ap (λ (m : ℕ). parse d (drop m names) empty (tokens (drop at ws))) (sym j)
+            ∙ ap (λ (m : ℕ). parse d (drop (k - 0) names) empty (tokens (drop m ws))) (sym i);
+      }
+
+  module _ (n : ℕ) (ms : List ℕ) (v : Row ws at names k n ms) (b : Bool) (i : IsBinder ws (at + 3 * n) b) where
+    pub row-further : b ≡ true → (at + 3 * n + 3 ≤ length ws) × (n < k)
+    row-further z = let l = subst (IsBinder ws (at + 3 * n)) z i .0 in (omega (arith, l, v .within), omega (arith, l, q .scope))
+
+    pub row-more : length ms ≡ length names → b ≡ true → Row ws at names k (n + 1) (set ms (k - n - 1) (getD ws (at + 3 * n + 1) 0))
+    unfolding abstractedBy
+    row-more l z =
+        let x = getD ws (at + 3 * n + 1) 0 in
+        let f : at + 3 * n + 3 ≡ at + 3 * (n + 1) = omega arith in
+        let g : k - n - 1 ≡ k - (n + 1) = omega arith in
+        let h = row-further z in
+        record {
+          within = omega (arith, h .0);
+          fits = omega (arith, h .1);
+          kept = drop-set-lt k ms (k - n - 1) x (omega (arith, h .1)) ∙ v .kept;
+          leads = λ d.
+              v .leads d
+              ∙ ap (abstractedBy n) (
+              ap (parse d (drop (k - n) ms) empty) (binder-tokens ws (at + 3 * n) (subst (IsBinder ws (at + 3 * n)) z i)) ∙ parse-abstraction d (drop (k - n) ms) x _
+              ∙ ap (λ (Δ : List ℕ). abstracted (parse d Δ empty (tokens (drop (at + 3 * n + 3) ws)))) (sym (name-more ms (k - n) x (omega (arith, h .1)) (omega (arith, q .inside))))
+              )
+              ∙ ap (λ (m : ℕ). abstractedBy (suc n) (parse d (drop m (set ms (k - n - 1) x)) empty (tokens (drop (at + 3 * n + 3) ws)))) g
+              ∙ ap (λ (m : ℕ). abstractedBy (suc n) (parse d (drop (k - (n + 1)) (set ms (k - n - 1) x)) empty (tokens (drop m ws)))) f
+              ∙ ap (λ (m : ℕ). abstractedBy m (parse d (drop (k - (n + 1)) (set ms (k - n - 1) x)) empty (tokens (drop (at + 3 * (n + 1)) ws)))) (sym (add-one n));
+        }
+
+    pub row-end : b ≡ false → n ≡ 0 → (d : ℕ) (Γ : List ℕ) → operand d Γ (tokens (drop at ws)) ≡ nothing
+    row-end z y =
+        let f : at + 3 * n ≡ at = omega arith in
+        subst (λ (j : ℕ). IsBinder ws j false) f (subst (IsBinder ws (at + 3 * n)) z i) (q .before) (q .opens)
 
 -- an operand in parentheses
 module _ (ws : List ℕ) (inner : Parsed) where
@@ -195,68 +247,82 @@ module _ (ws : List ℕ) (at d : ℕ) (Γ : List ℕ) (w : ℕ) (post m : List �
   group-told (Phrase next end) o = group-phrase next end o
   group-told Nothing o = group-nothing ws at d Γ h e n o
 
--- an abstraction's symbol
-module _ (post : List ℕ) (inner : Parsed) where
-  pub bodied-nothing : inner ≡ Nothing → Bodied post inner Nothing post
+-- n abstractions around an expression
+unfoldable absBy : ℕ → Expression → Expression
+absBy zero e = e
+absBy (suc n) e = absBy n (abs e)
+
+absBy-symbols : (n : ℕ) (e : Expression) → postfix e ++ replicate n 4 ≡ postfix (absBy n e)
+unfolding absBy postfix
+absBy-symbols zero e = append-nil (postfix e)
+absBy-symbols (suc n) e = sym (append-assoc (postfix e) (4 ∷ []) (replicate n 4)) ∙ absBy-symbols n (abs e)
+
+by-nothing : (n : ℕ) → abstractedBy n nothing ≡ nothing
+unfolding abstractedBy abstracted
+by-nothing zero = refl
+by-nothing (suc n) = by-nothing n
+
+by-read : (n : ℕ) (e : Expression) (r : List Token) → abstractedBy n (read e r) ≡ read (absBy n e) r
+unfolding abstractedBy abstracted absBy
+by-read zero e r = refl
+by-read (suc n) e r = by-read n (abs e) r
+
+-- the symbols of abstractions
+module _ (post : List ℕ) (inner : Parsed) (n : ℕ) where
+  pub bodied-nothing : inner ≡ Nothing → Bodied post inner n Nothing post
   unfolding Bodied
   bodied-nothing q = rw q (refl, refl)
 
   module _ (next end : ℕ) (q : inner ≡ Phrase next end) where
-    pub room-phrase : Room post inner → (end < length post) × (end < 16384)
+    pub room-phrase : Room post inner n → end + n ≤ length post
     unfolding Room
     room-phrase h = rw q at h
 
-    pub bodied-phrase : Bodied post inner (Phrase next (end + 1)) (set post end 4)
+    pub bodied-phrase : (m : List ℕ) (e : ℕ) → Wrote post end (replicate n 4) e m → Bodied post inner n (Phrase next e) m
     unfolding Bodied
-    bodied-phrase = rw q (refl, refl)
+    bodied-phrase m e w = let f = put-end post m end n 4 e w in rw (q, f) (refl, rw f at w)
 
--- an abstraction
-module _ (ws : List ℕ) (at d : ℕ) (names : List ℕ) (k : ℕ) (post : List ℕ) (w : ℕ) (q : Asks ws at names k post w) (h : at < length ws) (e : getD ws at 0 ≡ 92)
-    (i : IsBinder ws at true) where
-  pub name-place : 0 < k
-  name-place = omega (arith, q .scope, i .0)
-
-  body-is : operand d (drop k names) (tokens (drop at ws)) ≡ abstracted (parse d (drop (k - 1) (set names (k - 1) (getD ws (at + 1) 0))) empty (tokens (drop (at + 3) ws)))
-  body-is =
-      binder-body ws at d (drop k names) h e (i .0) (i .1) (i .2)
-      ∙ ap (λ (Δ : List ℕ). abstracted (parse d Δ empty (tokens (drop (at + 3) ws)))) (sym (name-more names k (getD ws (at + 1) 0) name-place (q .inside)))
-
-  pub body-asks : Asks ws (at + 3) (set names (k - 1) (getD ws (at + 1) 0)) (k - 1) post w
+-- the operand that a row of abstractions and its body are
+module _ (ws : List ℕ) (at d : ℕ) (names : List ℕ) (k : ℕ) (post : List ℕ) (w : ℕ) (q : Asks ws at names k post w) (n : ℕ) (ms : List ℕ)
+    (y : length ms ≡ length names) (v : Row ws at names k n ms) where
+  pub body-asks : Asks ws (at + 3 * n) ms (k - n) post w
   body-asks = record {
-    within = omega (arith, i .0);
+    within = v .within;
     few = q .few;
     space = q .space;
     room = omega (arith, q .room);
-    scope = omega (arith, q .scope, name-place);
-    inside = simp length-set (omega (arith, q .inside));
-    short = simp length-set (q .short);
+    scope = omega (arith, q .scope, v .fits);
+    inside = omega (arith, q .inside);
+    short = omega (arith, q .short);
   }
 
-  module _ (m : List ℕ) (y : length m ≡ length post) where
-    module _ (next end : ℕ) (o : Phrased (parse d (drop (k - 1) (set names (k - 1) (getD ws (at + 1) 0))) empty (tokens (drop (at + 3) ws))) ws w post m next end) where
-      took : length (postfix (o .e)) + 1 + 2 * (at + 3) ≤ 2 * next
-      took = parse-took d (drop (k - 1) (set names (k - 1) (getD ws (at + 1) 0))) ws (at + 3) next (o .e) (body-asks .within) (o .within) (o .leads)
+  module _ (m : List ℕ) (x : length m ≡ length post) where
+    module _ (next end : ℕ) (o : Phrased (parse d (drop (k - n) ms) empty (tokens (drop (at + 3 * n) ws))) ws w post m next end) where
+      room : end + n ≤ length m
+      room = omega (
+        arith,
+        parse-took d (drop (k - n) ms) ws (at + 3 * n) next (o .e) (v .within) (o .within) (o .leads),
+        o .within,
+        o .wrote .ends,
+        q .room,
+        q .space,
+      )
 
-      room : (end < length m) × (end < 16384)
-      room = (omega (arith, took, o .within, o .wrote .ends, q .room, q .space), omega (arith, took, o .within, o .wrote .ends, q .room, q .few))
-
-      body-phrase : Phrased (operand d (drop k names) (tokens (drop at ws))) ws w post (set m end 4) next (end + 1)
-      unfolding abstracted postfix
-      body-phrase = record {
-        e = abs (o .e);
-        leads = body-is ∙ ap abstracted (o .leads);
+      body-phrase : (l : List ℕ) → Wrote m end (replicate n 4) (end + n) l → Phrased (operand d (drop k names) (tokens (drop at ws))) ws w post l next (end + n)
+      body-phrase l b = record {
+        e = absBy n (o .e);
+        leads = v .leads d ∙ ap (abstractedBy n) (o .leads) ∙ by-read n (o .e) _;
         within = o .within;
-        wrote = wrote-then post m (set m end 4) (postfix (o .e)) (4 ∷ []) w end (end + 1) y (o .wrote) (wrote-one m end 4 (room .0));
+        wrote = rw (absBy-symbols n (o .e)) at (wrote-then post m l (postfix (o .e)) (replicate n 4) w end (end + n) x (o .wrote) b);
       }
 
-    pub body-room : (inner : Parsed) → Tells (parse d (drop (k - 1) (set names (k - 1) (getD ws (at + 1) 0))) empty (tokens (drop (at + 3) ws))) ws w post m inner
-        → Room m inner
+    pub body-room : (inner : Parsed) → Tells (parse d (drop (k - n) ms) empty (tokens (drop (at + 3 * n) ws))) ws w post m inner → Room m inner n
     unfolding Tells Room
     body-room (Phrase next end) o = room next end o
     body-room Nothing o = tt
 
-    pub body-told : (inner r : Parsed) (l : List ℕ) → Tells (parse d (drop (k - 1) (set names (k - 1) (getD ws (at + 1) 0))) empty (tokens (drop (at + 3) ws))) ws w post m inner
-        → Bodied m inner r l → Tells (operand d (drop k names) (tokens (drop at ws))) ws w post l r
-    unfolding Tells Bodied abstracted
-    body-told (Phrase next end) r l o b = rw (b .0, b .1) (body-phrase next end o)
-    body-told Nothing r l o b = rw (b .0) (body-is ∙ ap abstracted o)
+    pub body-told : (inner r : Parsed) (l : List ℕ) → Tells (parse d (drop (k - n) ms) empty (tokens (drop (at + 3 * n) ws))) ws w post m inner
+        → Bodied m inner n r l → Tells (operand d (drop k names) (tokens (drop at ws))) ws w post l r
+    unfolding Tells Bodied
+    body-told (Phrase next end) r l o b = rw (b .0) (body-phrase next end o l (b .1))
+    body-told Nothing r l o b = rw (b .0) (v .leads d ∙ ap (abstractedBy n) o ∙ by-nothing n)

@@ -3,11 +3,12 @@
 //
 // The names around a place are `names[k..]`, nearest first: the array is filled from its end.
 ghost use mathlib.Core.Path.{_≡_};
+ghost use mathlib.Core.List.{List};
 ghost use Prim.Native.Nat.{ℕ, _≤_, _<_};
 ghost use lib.ListN.{length, getD, drop};
-ghost use Rattle.grammar.specs.Reader.{empty, lookup, parse, operand};
+ghost use Rattle.grammar.specs.Reader.{nothing, empty, lookup, parse, operand};
 ghost use Rattle.grammar.specs.Words.{tokens};
-ghost use Rattle.parser.specs.Code.{placeOf, IsName, IsBinder, Asks, Tells, closeGroup, Room, Bodied};
+ghost use Rattle.parser.specs.Code.{placeOf, IsName, IsBinder, RowAsks, Row, Asks, Tells, closeGroup, Room, Bodied};
 use operators::Step;
 
 // What a phrase gives: the places after its words and after its symbols, or none.
@@ -94,18 +95,35 @@ fn atom(words: &[u64], at: usize, names: &[u64], k: usize, post: &mut [u16], w: 
     }
 }
 
-// Whether the backslash at a place opens an abstraction: a name and a full stop follow.
+// Whether an abstraction opens at a place: a backslash, a name and a full stop.
 fn is_binder(words: &[u64], at: usize) -> bool
-    requires { ⌜ (at < length (now words)) × (getD (now words) at 0 ≡ 92) ⌝ }
+    requires { ⌜ at ≤ length (now words) ⌝ }
     ensures { λ r. ⌜ IsBinder (now (words .entry)) at r ⌝ }
 {
     if words.len() - at < 3 {
+        return false;
+    }
+    if words[at] != 92 {
         return false;
     }
     if !is_name(words[at + 1]) {
         return false;
     }
     words[at + 2] == 46
+}
+
+// How many abstractions a row of them opens from the backslash at `at` on. Their names go before those around.
+fn open_abstractions(words: &[u64], at: usize, names: &mut [u64], k: usize) -> usize
+    requires { ⌜ RowAsks (now words) at (now names) k ⌝ }
+    ensures { λ n. ⌜ Row (now (words .entry)) at (now (names .entry)) k n (now (names .exit))
+        × (n ≡ 0 → (d : ℕ) (Γ : List ℕ) → operand d Γ (tokens (drop at (now (words .entry)))) ≡ nothing) ⌝ }
+{
+    let mut n = 0;
+    while is_binder(words, at + 3 * n) {
+        names[k - n - 1] = words[at + 3 * n + 1];
+        n += 1;
+    }
+    n
 }
 
 // The operand in parentheses, of which `inner` is the inside: the closing one follows it.
@@ -128,16 +146,16 @@ fn close_group(words: &[u64], inner: Parsed) -> Parsed
     }
 }
 
-// The abstraction of which `inner` is the body: its symbol follows the body's.
-fn close_abstraction(post: &mut [u16], inner: Parsed) -> Parsed
-    requires { ⌜ Room (now post) inner ⌝ }
-    ensures { λ r. ⌜ Bodied (now (post .entry)) inner r (now (post .exit)) ⌝ }
+// The n abstractions around a body, which is `inner`: their symbols follow the body's.
+fn close_abstractions(post: &mut [u16], inner: Parsed, n: usize) -> Parsed
+    requires { ⌜ Room (now post) inner n ⌝ }
+    ensures { λ r. ⌜ Bodied (now (post .entry)) inner n r (now (post .exit)) ⌝ }
 {
     let Parsed::Phrase { next, end } = inner else {
         return Parsed::Nothing;
     };
-    post[end] = 4;
-    Parsed::Phrase { next, end: end + 1 }
+    let after = operators::put(post, end, n, 4);
+    Parsed::Phrase { next, end: after }
 }
 
 // An operand. Parentheses may nest `depth` deep in it.
@@ -166,12 +184,12 @@ fn operand(
         return close_group(words, inner);
     }
     if t == 92 {
-        if !is_binder(words, at) {
+        let n = open_abstractions(words, at, names, k);
+        if n == 0 {
             return Parsed::Nothing;
         }
-        names[k - 1] = words[at + 1];
-        let body = expression(words, at + 3, depth, names, k - 1, post, w);
-        return close_abstraction(post, body);
+        let body = expression(words, at + 3 * n, depth, names, k - n, post, w);
+        return close_abstractions(post, body, n);
     }
     atom(words, at, names, k, post, w)
 }

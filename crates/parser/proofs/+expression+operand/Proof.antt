@@ -3,9 +3,9 @@ use Prim.Native.Nat.{_+_, _*_, _-_}
 use mathlib.Core.Path.{refl, _∙_}
 use native.Mathlib.Omega.{arith}
 use borrow.Author.Needs.{needs}
-use lib.ListN.{length, length-set}
+use lib.ListN.{length}
 use Rattle.parser.proofs.Phrases.{Carried, carried-start, carried-asks, carried-nothing, carried-after, carried-more, carried-done, carried-broken, told-phrase, told-nothing, tell, tell-nothing}
-use Rattle.parser.proofs.Groups.{none-here, binder-true, binder-false, too-deep, group-told, name-less, name-place, body-asks, body-room, body-told}
+use Rattle.parser.proofs.Groups.{none-here, too-deep, group-told, names-less, body-asks, body-room, body-told}
 use Prim.Native.Nat.{ℕ, _<_}
 use borrow.Fn.Kinds.{In}
 use borrow.Fn.PlainCycle.{Measures, is, falls, and}
@@ -18,9 +18,9 @@ use Rattle.parser.proofs.+expression+operand.Lts-operand as operand-lts
 use Rattle.operators.proofs.after.Reads as after-reads
 use Rattle.operators.proofs.begin.Reads as begin-reads
 use Rattle.parser.proofs.atom.Reads as atom-reads
-use Rattle.parser.proofs.close_abstraction.Reads as close-abstraction-reads
+use Rattle.parser.proofs.close_abstractions.Reads as close-abstractions-reads
 use Rattle.parser.proofs.close_group.Reads as close-group-reads
-use Rattle.parser.proofs.is_binder.Reads as is-binder-reads
+use Rattle.parser.proofs.open_abstractions.Reads as open-abstractions-reads
 use Rattle.parser.proofs.+expression+operand.{statement}
 use Rattle.parser.proofs.+expression+operand.Tie.{close}
 
@@ -272,10 +272,10 @@ operand-returns : (t : ℕ) → operand-lts.Need-returns (
   expression.Post,
   close-group-reads.Asked,
   close-group-reads.Learnt,
-  is-binder-reads.Asked,
-  is-binder-reads.Learnt,
-  close-abstraction-reads.Asked,
-  close-abstraction-reads.Learnt,
+  open-abstractions-reads.Asked,
+  open-abstractions-reads.Learnt,
+  close-abstractions-reads.Asked,
+  close-abstractions-reads.Learnt,
   atom-reads.Asked,
   atom-reads.Learnt,
 ) (operand-at t) operand.Post
@@ -286,10 +286,10 @@ operand-mul-t : (t : ℕ) → operand-lts.Need-mul-t (
   expression.Post,
   close-group-reads.Asked,
   close-group-reads.Learnt,
-  is-binder-reads.Asked,
-  is-binder-reads.Learnt,
-  close-abstraction-reads.Asked,
-  close-abstraction-reads.Learnt,
+  open-abstractions-reads.Asked,
+  open-abstractions-reads.Learnt,
+  close-abstractions-reads.Asked,
+  close-abstractions-reads.Learnt,
   atom-reads.Asked,
   atom-reads.Learnt,
 ) (operand-at t) operand.Post
@@ -300,10 +300,10 @@ operand-shared-slice-read-t : (t : ℕ) → operand-lts.Need-shared-slice-read-t
   expression.Post,
   close-group-reads.Asked,
   close-group-reads.Learnt,
-  is-binder-reads.Asked,
-  is-binder-reads.Learnt,
-  close-abstraction-reads.Asked,
-  close-abstraction-reads.Learnt,
+  open-abstractions-reads.Asked,
+  open-abstractions-reads.Learnt,
+  close-abstractions-reads.Asked,
+  close-abstractions-reads.Learnt,
   atom-reads.Asked,
   atom-reads.Learnt,
 ) (operand-at t) operand.Post
@@ -314,10 +314,10 @@ operand-returns-2 : (t : ℕ) → operand-lts.Need-returns-2 (
   expression.Post,
   close-group-reads.Asked,
   close-group-reads.Learnt,
-  is-binder-reads.Asked,
-  is-binder-reads.Learnt,
-  close-abstraction-reads.Asked,
-  close-abstraction-reads.Learnt,
+  open-abstractions-reads.Asked,
+  open-abstractions-reads.Learnt,
+  close-abstractions-reads.Asked,
+  close-abstractions-reads.Learnt,
   atom-reads.Asked,
   atom-reads.Learnt,
 ) (operand-at t) operand.Post
@@ -328,10 +328,10 @@ operand-add-expression : (t : ℕ) → operand-lts.Need-add-expression (
   expression.Post,
   close-group-reads.Asked,
   close-group-reads.Learnt,
-  is-binder-reads.Asked,
-  is-binder-reads.Learnt,
-  close-abstraction-reads.Asked,
-  close-abstraction-reads.Learnt,
+  open-abstractions-reads.Asked,
+  open-abstractions-reads.Learnt,
+  close-abstractions-reads.Asked,
+  close-abstractions-reads.Learnt,
   atom-reads.Asked,
   atom-reads.Learnt,
 ) (operand-at t) operand.Post
@@ -342,10 +342,10 @@ operand-sub-expression : (t : ℕ) → operand-lts.Need-sub-expression (
   expression.Post,
   close-group-reads.Asked,
   close-group-reads.Learnt,
-  is-binder-reads.Asked,
-  is-binder-reads.Learnt,
-  close-abstraction-reads.Asked,
-  close-abstraction-reads.Learnt,
+  open-abstractions-reads.Asked,
+  open-abstractions-reads.Learnt,
+  close-abstractions-reads.Asked,
+  close-abstractions-reads.Learnt,
   atom-reads.Asked,
   atom-reads.Learnt,
 ) (operand-at t) operand.Post
@@ -356,10 +356,10 @@ operand-expression-requires : (t : ℕ) → operand-lts.Need-expression-requires
   expression.Post,
   close-group-reads.Asked,
   close-group-reads.Learnt,
-  is-binder-reads.Asked,
-  is-binder-reads.Learnt,
-  close-abstraction-reads.Asked,
-  close-abstraction-reads.Learnt,
+  open-abstractions-reads.Asked,
+  open-abstractions-reads.Learnt,
+  close-abstractions-reads.Asked,
+  close-abstractions-reads.Learnt,
   atom-reads.Asked,
   atom-reads.Learnt,
 ) (operand-at t) operand.Post
@@ -370,10 +370,10 @@ operand-close-group-requires : (t : ℕ) → operand-lts.Need-close-group-requir
   expression.Post,
   close-group-reads.Asked,
   close-group-reads.Learnt,
-  is-binder-reads.Asked,
-  is-binder-reads.Learnt,
-  close-abstraction-reads.Asked,
-  close-abstraction-reads.Learnt,
+  open-abstractions-reads.Asked,
+  open-abstractions-reads.Learnt,
+  close-abstractions-reads.Asked,
+  close-abstractions-reads.Learnt,
   atom-reads.Asked,
   atom-reads.Learnt,
 ) (operand-at t) operand.Post
@@ -384,10 +384,10 @@ operand-same-length : (t : ℕ) → operand-lts.Need-same-length (
   expression.Post,
   close-group-reads.Asked,
   close-group-reads.Learnt,
-  is-binder-reads.Asked,
-  is-binder-reads.Learnt,
-  close-abstraction-reads.Asked,
-  close-abstraction-reads.Learnt,
+  open-abstractions-reads.Asked,
+  open-abstractions-reads.Learnt,
+  close-abstractions-reads.Asked,
+  close-abstractions-reads.Learnt,
   atom-reads.Asked,
   atom-reads.Learnt,
 ) (operand-at t) operand.Post
@@ -398,10 +398,10 @@ operand-same-length-2 : (t : ℕ) → operand-lts.Need-same-length-2 (
   expression.Post,
   close-group-reads.Asked,
   close-group-reads.Learnt,
-  is-binder-reads.Asked,
-  is-binder-reads.Learnt,
-  close-abstraction-reads.Asked,
-  close-abstraction-reads.Learnt,
+  open-abstractions-reads.Asked,
+  open-abstractions-reads.Learnt,
+  close-abstractions-reads.Asked,
+  close-abstractions-reads.Learnt,
   atom-reads.Asked,
   atom-reads.Learnt,
 ) (operand-at t) operand.Post
@@ -412,276 +412,222 @@ operand-returns-3 : (t : ℕ) → operand-lts.Need-returns-3 (
   expression.Post,
   close-group-reads.Asked,
   close-group-reads.Learnt,
-  is-binder-reads.Asked,
-  is-binder-reads.Learnt,
-  close-abstraction-reads.Asked,
-  close-abstraction-reads.Learnt,
+  open-abstractions-reads.Asked,
+  open-abstractions-reads.Learnt,
+  close-abstractions-reads.Asked,
+  close-abstractions-reads.Learnt,
   atom-reads.Asked,
   atom-reads.Learnt,
 ) (operand-at t) operand.Post
 operand-returns-3 t c = (rw (c .close-group .ensures) (group-told _ _ _ _ _ _ _ (c .before .before .before .before .before .before .before .before .before .before .before .if1 .left) (c .before .before .before .before .before .before .before .before .before .if2 .taken) (c .before .before .before .before .before .before .before .before .if3 .left) _ (c .before .before .before .before .before .expression .ensures .0)), c .before .before .before .before .before .expression .ensures .1)
 
-operand-is-binder-requires : (t : ℕ) → operand-lts.Need-is-binder-requires (
+operand-open-abstractions-requires : (t : ℕ) → operand-lts.Need-open-abstractions-requires (
   expression-below t,
   expression.Post,
   close-group-reads.Asked,
   close-group-reads.Learnt,
-  is-binder-reads.Asked,
-  is-binder-reads.Learnt,
-  close-abstraction-reads.Asked,
-  close-abstraction-reads.Learnt,
+  open-abstractions-reads.Asked,
+  open-abstractions-reads.Learnt,
+  close-abstractions-reads.Asked,
+  close-abstractions-reads.Learnt,
   atom-reads.Asked,
   atom-reads.Learnt,
 ) (operand-at t) operand.Post
-operand-is-binder-requires t c κs = (c .before .before .before .if1 .left, c .if4 .taken)
-
-operand-returns-4 : (t : ℕ) → operand-lts.Need-returns-4 (
-  expression-below t,
-  expression.Post,
-  close-group-reads.Asked,
-  close-group-reads.Learnt,
-  is-binder-reads.Asked,
-  is-binder-reads.Learnt,
-  close-abstraction-reads.Asked,
-  close-abstraction-reads.Learnt,
-  atom-reads.Asked,
-  atom-reads.Learnt,
-) (operand-at t) operand.Post
-operand-returns-4 t c = (tell-nothing _ _ _ _ _ (binder-false (c .before .before .before .before .before .before .before .before .before .args .words .now) (c .before .before .before .before .before .before .before .before .before .args .at) (c .before .is-binder .result) (c .before .is-binder .ensures) (c .if5 .taken) _ _), refl)
-
-operand-add-names : (t : ℕ) → operand-lts.Need-add-names (
-  expression-below t,
-  expression.Post,
-  close-group-reads.Asked,
-  close-group-reads.Learnt,
-  is-binder-reads.Asked,
-  is-binder-reads.Learnt,
-  close-abstraction-reads.Asked,
-  close-abstraction-reads.Learnt,
-  atom-reads.Asked,
-  atom-reads.Learnt,
-) (operand-at t) operand.Post
-operand-add-names t c = let i = binder-true (c .before .before .before .before .before .before .before .before .before .args .words .now) (c .before .before .before .before .before .before .before .before .before .args .at) (c .before .is-binder .result) (c .before .is-binder .ensures) (c .if5 .left) in omega (arith, i .0)
-
-operand-mul-names : (t : ℕ) → operand-lts.Need-mul-names (
-  expression-below t,
-  expression.Post,
-  close-group-reads.Asked,
-  close-group-reads.Learnt,
-  is-binder-reads.Asked,
-  is-binder-reads.Learnt,
-  close-abstraction-reads.Asked,
-  close-abstraction-reads.Learnt,
-  atom-reads.Asked,
-  atom-reads.Learnt,
-) (operand-at t) operand.Post
-operand-mul-names t c = let i = binder-true (c .before .before .before .before .before .before .before .before .before .args .words .now) (c .before .before .before .before .before .before .before .before .before .args .at) (c .before .is-binder .result) (c .before .is-binder .ensures) (c .if5 .left) in omega (arith, i .0, c .before .before .before .before .before .before .before .before .before .pre .1 .few)
-
-operand-shared-slice-read-names : (t : ℕ) → operand-lts.Need-shared-slice-read-names (
-  expression-below t,
-  expression.Post,
-  close-group-reads.Asked,
-  close-group-reads.Learnt,
-  is-binder-reads.Asked,
-  is-binder-reads.Learnt,
-  close-abstraction-reads.Asked,
-  close-abstraction-reads.Learnt,
-  atom-reads.Asked,
-  atom-reads.Learnt,
-) (operand-at t) operand.Post
-operand-shared-slice-read-names t c = let i = binder-true (c .before .before .before .before .before .before .before .before .before .before .args .words .now) (c .before .before .before .before .before .before .before .before .before .before .args .at) (c .before .before .is-binder .result) (c .before .before .is-binder .ensures) (c .before .if5 .left) in omega (arith, i .0)
-
-operand-sub-names : (t : ℕ) → operand-lts.Need-sub-names (
-  expression-below t,
-  expression.Post,
-  close-group-reads.Asked,
-  close-group-reads.Learnt,
-  is-binder-reads.Asked,
-  is-binder-reads.Learnt,
-  close-abstraction-reads.Asked,
-  close-abstraction-reads.Learnt,
-  atom-reads.Asked,
-  atom-reads.Learnt,
-) (operand-at t) operand.Post
-operand-sub-names t c = omega (arith, name-place _ _ (c .before .before .before .before .before .before .before .before .before .before .args .depth) _ _ _ _ (c .before .before .before .before .before .before .before .before .before .before .pre .1) (c .before .before .before .before .before .before .if1 .left) (c .before .before .before .if4 .taken) (binder-true (c .before .before .before .before .before .before .before .before .before .before .args .words .now) (c .before .before .before .before .before .before .before .before .before .before .args .at) (c .before .before .is-binder .result) (c .before .before .is-binder .ensures) (c .before .if5 .left)))
-
-operand-mul-names-2 : (t : ℕ) → operand-lts.Need-mul-names-2 (
-  expression-below t,
-  expression.Post,
-  close-group-reads.Asked,
-  close-group-reads.Learnt,
-  is-binder-reads.Asked,
-  is-binder-reads.Learnt,
-  close-abstraction-reads.Asked,
-  close-abstraction-reads.Learnt,
-  atom-reads.Asked,
-  atom-reads.Learnt,
-) (operand-at t) operand.Post
-operand-mul-names-2 t c = omega (arith, c .before .before .before .before .before .before .before .before .before .before .pre .1 .short, c .before .before .before .before .before .before .before .before .before .before .pre .1 .inside)
-
-operand-slice-write-names : (t : ℕ) → operand-lts.Need-slice-write-names (
-  expression-below t,
-  expression.Post,
-  close-group-reads.Asked,
-  close-group-reads.Learnt,
-  is-binder-reads.Asked,
-  is-binder-reads.Learnt,
-  close-abstraction-reads.Asked,
-  close-abstraction-reads.Learnt,
-  atom-reads.Asked,
-  atom-reads.Learnt,
-) (operand-at t) operand.Post
-operand-slice-write-names t c = omega (arith, name-place _ _ (c .before .before .before .before .before .before .before .before .before .before .args .depth) _ _ _ _ (c .before .before .before .before .before .before .before .before .before .before .pre .1) (c .before .before .before .before .before .before .if1 .left) (c .before .before .before .if4 .taken) (binder-true (c .before .before .before .before .before .before .before .before .before .before .args .words .now) (c .before .before .before .before .before .before .before .before .before .before .args .at) (c .before .before .is-binder .result) (c .before .before .is-binder .ensures) (c .before .if5 .left)), c .before .before .before .before .before .before .before .before .before .before .pre .1 .inside)
-
-operand-add-expression-2 : (t : ℕ) → operand-lts.Need-add-expression-2 (
-  expression-below t,
-  expression.Post,
-  close-group-reads.Asked,
-  close-group-reads.Learnt,
-  is-binder-reads.Asked,
-  is-binder-reads.Learnt,
-  close-abstraction-reads.Asked,
-  close-abstraction-reads.Learnt,
-  atom-reads.Asked,
-  atom-reads.Learnt,
-) (operand-at t) operand.Post
-operand-add-expression-2 t c = let i = binder-true (c .before .before .before .before .before .before .before .before .before .before .args .words .now) (c .before .before .before .before .before .before .before .before .before .before .args .at) (c .before .before .is-binder .result) (c .before .before .is-binder .ensures) (c .before .if5 .left) in omega (arith, i .0, c .before .before .before .before .before .before .before .before .before .before .pre .1 .few)
-
-operand-sub-expression-2 : (t : ℕ) → operand-lts.Need-sub-expression-2 (
-  expression-below t,
-  expression.Post,
-  close-group-reads.Asked,
-  close-group-reads.Learnt,
-  is-binder-reads.Asked,
-  is-binder-reads.Learnt,
-  close-abstraction-reads.Asked,
-  close-abstraction-reads.Learnt,
-  atom-reads.Asked,
-  atom-reads.Learnt,
-) (operand-at t) operand.Post
-operand-sub-expression-2 t c = omega (arith, name-place _ _ (c .before .before .before .before .before .before .before .before .before .before .before .args .depth) _ _ _ _ (c .before .before .before .before .before .before .before .before .before .before .before .pre .1) (c .before .before .before .before .before .before .before .if1 .left) (c .before .before .before .before .if4 .taken) (binder-true (c .before .before .before .before .before .before .before .before .before .before .before .args .words .now) (c .before .before .before .before .before .before .before .before .before .before .before .args .at) (c .before .before .before .is-binder .result) (c .before .before .before .is-binder .ensures) (c .before .before .if5 .left)))
-
-operand-expression-requires-2 : (t : ℕ) → operand-lts.Need-expression-requires-2 (
-  expression-below t,
-  expression.Post,
-  close-group-reads.Asked,
-  close-group-reads.Learnt,
-  is-binder-reads.Asked,
-  is-binder-reads.Learnt,
-  close-abstraction-reads.Asked,
-  close-abstraction-reads.Learnt,
-  atom-reads.Asked,
-  atom-reads.Learnt,
-) (operand-at t) operand.Post
-operand-expression-requires-2 t c κs = let i = binder-true (c .before .before .before .before .before .before .before .before .before .before .before .before .args .words .now) (c .before .before .before .before .before .before .before .before .before .before .before .before .args .at) (c .before .before .before .before .is-binder .result) (c .before .before .before .before .is-binder .ensures) (c .before .before .before .if5 .left) in (omega (arith, c .before .before .before .before .before .before .before .before .before .before .before .before .pre .0, i .0), body-asks _ _ (c .before .before .before .before .before .before .before .before .before .before .before .before .args .depth) _ _ _ _ (c .before .before .before .before .before .before .before .before .before .before .before .before .pre .1) (c .before .before .before .before .before .before .before .before .if1 .left) (c .before .before .before .before .before .if4 .taken) (binder-true (c .before .before .before .before .before .before .before .before .before .before .before .before .args .words .now) (c .before .before .before .before .before .before .before .before .before .before .before .before .args .at) (c .before .before .before .before .is-binder .result) (c .before .before .before .before .is-binder .ensures) (c .before .before .before .if5 .left)))
-
-operand-close-abstraction-requires : (t : ℕ) → operand-lts.Need-close-abstraction-requires (
-  expression-below t,
-  expression.Post,
-  close-group-reads.Asked,
-  close-group-reads.Learnt,
-  is-binder-reads.Asked,
-  is-binder-reads.Learnt,
-  close-abstraction-reads.Asked,
-  close-abstraction-reads.Learnt,
-  atom-reads.Asked,
-  atom-reads.Learnt,
-) (operand-at t) operand.Post
-operand-close-abstraction-requires t c κs = body-room _ _ (c .before .before .before .before .before .before .before .before .before .before .before .before .before .before .before .before .before .before .args .depth) _ _ _ _ (c .before .before .before .before .before .before .before .before .before .before .before .before .before .before .before .before .before .before .pre .1) (c .before .before .before .before .before .before .before .before .before .before .before .before .before .before .if1 .left) (c .before .before .before .before .before .before .before .before .before .before .before .if4 .taken) (binder-true (c .before .before .before .before .before .before .before .before .before .before .before .before .before .before .before .before .before .before .args .words .now) (c .before .before .before .before .before .before .before .before .before .before .before .before .before .before .before .before .before .before .args .at) (c .before .before .before .before .before .before .before .before .before .before .is-binder .result) (c .before .before .before .before .before .before .before .before .before .before .is-binder .ensures) (c .before .before .before .before .before .before .before .before .before .if5 .left)) _ (c .before .before .before .before .before .expression2 .kept .1 .1 .1 .1 .1 .0) _ (c .before .before .before .before .before .expression2 .ensures .0)
+operand-open-abstractions-requires t c κs = let q = c .before .before .before .before .before .before .before .before .pre .1 in record { before = c .before .before .before .before .if1 .left; opens = c .before .if4 .taken; few = q .few; scope = q .scope; inside = q .inside; short = q .short }
 
 operand-same-length-3 : (t : ℕ) → operand-lts.Need-same-length-3 (
   expression-below t,
   expression.Post,
   close-group-reads.Asked,
   close-group-reads.Learnt,
-  is-binder-reads.Asked,
-  is-binder-reads.Learnt,
-  close-abstraction-reads.Asked,
-  close-abstraction-reads.Learnt,
+  open-abstractions-reads.Asked,
+  open-abstractions-reads.Learnt,
+  close-abstractions-reads.Asked,
+  close-abstractions-reads.Learnt,
   atom-reads.Asked,
   atom-reads.Learnt,
 ) (operand-at t) operand.Post
-operand-same-length-3 t c = c .before .before .before .before .before .before .before .before .expression2 .kept .1 .1 .1 .0 ∙ simp length-set
+operand-same-length-3 t c = c .before .before .before .open-abstractions .kept .1 .1 .0
+
+operand-returns-4 : (t : ℕ) → operand-lts.Need-returns-4 (
+  expression-below t,
+  expression.Post,
+  close-group-reads.Asked,
+  close-group-reads.Learnt,
+  open-abstractions-reads.Asked,
+  open-abstractions-reads.Learnt,
+  close-abstractions-reads.Asked,
+  close-abstractions-reads.Learnt,
+  atom-reads.Asked,
+  atom-reads.Learnt,
+) (operand-at t) operand.Post
+operand-returns-4 t c = (tell-nothing _ _ _ _ _ (c .before .before .before .open-abstractions .ensures .1 (c .if5 .taken) _ _), c .before .before .before .open-abstractions .ensures .0 .kept)
+
+operand-mul-expression : (t : ℕ) → operand-lts.Need-mul-expression (
+  expression-below t,
+  expression.Post,
+  close-group-reads.Asked,
+  close-group-reads.Learnt,
+  open-abstractions-reads.Asked,
+  open-abstractions-reads.Learnt,
+  close-abstractions-reads.Asked,
+  close-abstractions-reads.Learnt,
+  atom-reads.Asked,
+  atom-reads.Learnt,
+) (operand-at t) operand.Post
+operand-mul-expression t c = omega (arith, c .before .before .before .open-abstractions .ensures .0 .within, c .before .before .before .before .before .before .before .before .before .before .before .before .pre .1 .few)
+
+operand-add-expression-2 : (t : ℕ) → operand-lts.Need-add-expression-2 (
+  expression-below t,
+  expression.Post,
+  close-group-reads.Asked,
+  close-group-reads.Learnt,
+  open-abstractions-reads.Asked,
+  open-abstractions-reads.Learnt,
+  close-abstractions-reads.Asked,
+  close-abstractions-reads.Learnt,
+  atom-reads.Asked,
+  atom-reads.Learnt,
+) (operand-at t) operand.Post
+operand-add-expression-2 t c = omega (arith, c .before .before .before .open-abstractions .ensures .0 .within, c .before .before .before .before .before .before .before .before .before .before .before .before .pre .1 .few)
+
+operand-sub-expression-2 : (t : ℕ) → operand-lts.Need-sub-expression-2 (
+  expression-below t,
+  expression.Post,
+  close-group-reads.Asked,
+  close-group-reads.Learnt,
+  open-abstractions-reads.Asked,
+  open-abstractions-reads.Learnt,
+  close-abstractions-reads.Asked,
+  close-abstractions-reads.Learnt,
+  atom-reads.Asked,
+  atom-reads.Learnt,
+) (operand-at t) operand.Post
+operand-sub-expression-2 t c = omega (arith, c .before .before .before .before .open-abstractions .ensures .0 .fits)
+
+operand-expression-requires-2 : (t : ℕ) → operand-lts.Need-expression-requires-2 (
+  expression-below t,
+  expression.Post,
+  close-group-reads.Asked,
+  close-group-reads.Learnt,
+  open-abstractions-reads.Asked,
+  open-abstractions-reads.Learnt,
+  close-abstractions-reads.Asked,
+  close-abstractions-reads.Learnt,
+  atom-reads.Asked,
+  atom-reads.Learnt,
+) (operand-at t) operand.Post
+operand-expression-requires-2 t c κs = let v = c .before .before .before .before .before .open-abstractions .ensures .0 in (omega (arith, c .before .before .before .before .before .before .before .before .before .before .before .before .before .before .pre .0, v .within, c .before .before .if5 .left), body-asks _ _ (c .before .before .before .before .before .before .before .before .before .before .before .before .before .before .args .depth) _ _ _ _ (c .before .before .before .before .before .before .before .before .before .before .before .before .before .before .pre .1) _ _ (c .before .before .before .before .before .open-abstractions .kept .1 .1 .0) v)
+
+operand-close-abstractions-requires : (t : ℕ) → operand-lts.Need-close-abstractions-requires (
+  expression-below t,
+  expression.Post,
+  close-group-reads.Asked,
+  close-group-reads.Learnt,
+  open-abstractions-reads.Asked,
+  open-abstractions-reads.Learnt,
+  close-abstractions-reads.Asked,
+  close-abstractions-reads.Learnt,
+  atom-reads.Asked,
+  atom-reads.Learnt,
+) (operand-at t) operand.Post
+operand-close-abstractions-requires t c κs = body-room _ _ (c .before .before .before .before .before .before .before .before .before .before .before .before .before .before .before .before .before .before .before .before .args .depth) _ _ _ _ (c .before .before .before .before .before .before .before .before .before .before .before .before .before .before .before .before .before .before .before .before .pre .1) _ _ (c .before .before .before .before .before .before .before .before .before .before .before .open-abstractions .kept .1 .1 .0) (c .before .before .before .before .before .before .before .before .before .before .before .open-abstractions .ensures .0) _ (c .before .before .before .before .before .expression2 .kept .1 .1 .1 .1 .1 .0) _ (c .before .before .before .before .before .expression2 .ensures .0)
 
 operand-same-length-4 : (t : ℕ) → operand-lts.Need-same-length-4 (
   expression-below t,
   expression.Post,
   close-group-reads.Asked,
   close-group-reads.Learnt,
-  is-binder-reads.Asked,
-  is-binder-reads.Learnt,
-  close-abstraction-reads.Asked,
-  close-abstraction-reads.Learnt,
+  open-abstractions-reads.Asked,
+  open-abstractions-reads.Learnt,
+  close-abstractions-reads.Asked,
+  close-abstractions-reads.Learnt,
   atom-reads.Asked,
   atom-reads.Learnt,
 ) (operand-at t) operand.Post
-operand-same-length-4 t c = c .before .before .close-abstraction .kept .0 ∙ c .before .before .before .before .before .before .before .before .expression2 .kept .1 .1 .1 .1 .1 .0
-
-operand-returns-5 : (t : ℕ) → operand-lts.Need-returns-5 (
-  expression-below t,
-  expression.Post,
-  close-group-reads.Asked,
-  close-group-reads.Learnt,
-  is-binder-reads.Asked,
-  is-binder-reads.Learnt,
-  close-abstraction-reads.Asked,
-  close-abstraction-reads.Learnt,
-  atom-reads.Asked,
-  atom-reads.Learnt,
-) (operand-at t) operand.Post
-operand-returns-5 t c = (body-told _ _ (c .before .before .before .before .before .before .before .before .before .before .before .before .before .before .before .before .before .before .before .before .before .args .depth) _ _ _ _ (c .before .before .before .before .before .before .before .before .before .before .before .before .before .before .before .before .before .before .before .before .before .pre .1) (c .before .before .before .before .before .before .before .before .before .before .before .before .before .before .before .before .before .if1 .left) (c .before .before .before .before .before .before .before .before .before .before .before .before .before .before .if4 .taken) (binder-true (c .before .before .before .before .before .before .before .before .before .before .before .before .before .before .before .before .before .before .before .before .before .args .words .now) (c .before .before .before .before .before .before .before .before .before .before .before .before .before .before .before .before .before .before .before .before .before .args .at) (c .before .before .before .before .before .before .before .before .before .before .before .before .before .is-binder .result) (c .before .before .before .before .before .before .before .before .before .before .before .before .before .is-binder .ensures) (c .before .before .before .before .before .before .before .before .before .before .before .before .if5 .left)) _ (c .before .before .before .before .before .before .before .before .expression2 .kept .1 .1 .1 .1 .1 .0) _ _ _ (c .before .before .before .before .before .before .before .before .expression2 .ensures .0) (c .before .before .close-abstraction .ensures), name-less _ _ _ _ (name-place _ _ (c .before .before .before .before .before .before .before .before .before .before .before .before .before .before .before .before .before .before .before .before .before .args .depth) _ _ _ _ (c .before .before .before .before .before .before .before .before .before .before .before .before .before .before .before .before .before .before .before .before .before .pre .1) (c .before .before .before .before .before .before .before .before .before .before .before .before .before .before .before .before .before .if1 .left) (c .before .before .before .before .before .before .before .before .before .before .before .before .before .before .if4 .taken) (binder-true (c .before .before .before .before .before .before .before .before .before .before .before .before .before .before .before .before .before .before .before .before .before .args .words .now) (c .before .before .before .before .before .before .before .before .before .before .before .before .before .before .before .before .before .before .before .before .before .args .at) (c .before .before .before .before .before .before .before .before .before .before .before .before .before .is-binder .result) (c .before .before .before .before .before .before .before .before .before .before .before .before .before .is-binder .ensures) (c .before .before .before .before .before .before .before .before .before .before .before .before .if5 .left))) (c .before .before .before .before .before .before .before .before .before .before .before .before .before .before .before .before .before .before .before .before .before .pre .1 .inside) (c .before .before .before .before .before .before .before .before .expression2 .ensures .1))
-
-operand-atom-requires : (t : ℕ) → operand-lts.Need-atom-requires (
-  expression-below t,
-  expression.Post,
-  close-group-reads.Asked,
-  close-group-reads.Learnt,
-  is-binder-reads.Asked,
-  is-binder-reads.Learnt,
-  close-abstraction-reads.Asked,
-  close-abstraction-reads.Learnt,
-  atom-reads.Asked,
-  atom-reads.Learnt,
-) (operand-at t) operand.Post
-operand-atom-requires t c κs = (c .before .before .before .before .before .before .before .before .before .pre .1, c .before .before .before .before .before .if1 .left, c .before .before .before .if2 .left, c .before .before .if4 .left)
+operand-same-length-4 t c = c .before .before .before .before .before .before .before .before .expression2 .kept .1 .1 .1 .0 ∙ c .before .before .before .before .before .before .before .before .before .before .before .before .before .before .open-abstractions .kept .1 .1 .0
 
 operand-same-length-5 : (t : ℕ) → operand-lts.Need-same-length-5 (
   expression-below t,
   expression.Post,
   close-group-reads.Asked,
   close-group-reads.Learnt,
-  is-binder-reads.Asked,
-  is-binder-reads.Learnt,
-  close-abstraction-reads.Asked,
-  close-abstraction-reads.Learnt,
+  open-abstractions-reads.Asked,
+  open-abstractions-reads.Learnt,
+  close-abstractions-reads.Asked,
+  close-abstractions-reads.Learnt,
   atom-reads.Asked,
   atom-reads.Learnt,
 ) (operand-at t) operand.Post
-operand-same-length-5 t c = refl
+operand-same-length-5 t c = c .before .before .close-abstractions .kept .0 ∙ c .before .before .before .before .before .before .before .before .expression2 .kept .1 .1 .1 .1 .1 .0
+
+operand-returns-5 : (t : ℕ) → operand-lts.Need-returns-5 (
+  expression-below t,
+  expression.Post,
+  close-group-reads.Asked,
+  close-group-reads.Learnt,
+  open-abstractions-reads.Asked,
+  open-abstractions-reads.Learnt,
+  close-abstractions-reads.Asked,
+  close-abstractions-reads.Learnt,
+  atom-reads.Asked,
+  atom-reads.Learnt,
+) (operand-at t) operand.Post
+operand-returns-5 t c =
+    let v = c .before .before .before .before .before .before .before .before .before .before .before .before .before .before .open-abstractions .ensures .0 in
+    (body-told _ _ (c .before .before .before .before .before .before .before .before .before .before .before .before .before .before .before .before .before .before .before .before .before .before .before .args .depth) _ _ _ _ (c .before .before .before .before .before .before .before .before .before .before .before .before .before .before .before .before .before .before .before .before .before .before .before .pre .1) _ _ (c .before .before .before .before .before .before .before .before .before .before .before .before .before .before .open-abstractions .kept .1 .1 .0) v _ (c .before .before .before .before .before .before .before .before .expression2 .kept .1 .1 .1 .1 .1 .0) _ _ _ (c .before .before .before .before .before .before .before .before .expression2 .ensures .0) (c .before .before .close-abstractions .ensures), names-less _ _ _ _ (v .fits) (c .before .before .before .before .before .before .before .before .expression2 .ensures .1) ∙ v .kept)
+
+operand-atom-requires : (t : ℕ) → operand-lts.Need-atom-requires (
+  expression-below t,
+  expression.Post,
+  close-group-reads.Asked,
+  close-group-reads.Learnt,
+  open-abstractions-reads.Asked,
+  open-abstractions-reads.Learnt,
+  close-abstractions-reads.Asked,
+  close-abstractions-reads.Learnt,
+  atom-reads.Asked,
+  atom-reads.Learnt,
+) (operand-at t) operand.Post
+operand-atom-requires t c κs = (c .before .before .before .before .before .before .before .before .before .pre .1, c .before .before .before .before .before .if1 .left, c .before .before .before .if2 .left, c .before .before .if4 .left)
 
 operand-same-length-6 : (t : ℕ) → operand-lts.Need-same-length-6 (
   expression-below t,
   expression.Post,
   close-group-reads.Asked,
   close-group-reads.Learnt,
-  is-binder-reads.Asked,
-  is-binder-reads.Learnt,
-  close-abstraction-reads.Asked,
-  close-abstraction-reads.Learnt,
+  open-abstractions-reads.Asked,
+  open-abstractions-reads.Learnt,
+  close-abstractions-reads.Asked,
+  close-abstractions-reads.Learnt,
   atom-reads.Asked,
   atom-reads.Learnt,
 ) (operand-at t) operand.Post
-operand-same-length-6 t c = c .before .before .atom .kept .1 .1 .1 .1 .0
+operand-same-length-6 t c = refl
+
+operand-same-length-7 : (t : ℕ) → operand-lts.Need-same-length-7 (
+  expression-below t,
+  expression.Post,
+  close-group-reads.Asked,
+  close-group-reads.Learnt,
+  open-abstractions-reads.Asked,
+  open-abstractions-reads.Learnt,
+  close-abstractions-reads.Asked,
+  close-abstractions-reads.Learnt,
+  atom-reads.Asked,
+  atom-reads.Learnt,
+) (operand-at t) operand.Post
+operand-same-length-7 t c = c .before .before .atom .kept .1 .1 .1 .1 .0
 
 operand-returns-6 : (t : ℕ) → operand-lts.Need-returns-6 (
   expression-below t,
   expression.Post,
   close-group-reads.Asked,
   close-group-reads.Learnt,
-  is-binder-reads.Asked,
-  is-binder-reads.Learnt,
-  close-abstraction-reads.Asked,
-  close-abstraction-reads.Learnt,
+  open-abstractions-reads.Asked,
+  open-abstractions-reads.Learnt,
+  close-abstractions-reads.Asked,
+  close-abstractions-reads.Learnt,
   atom-reads.Asked,
   atom-reads.Learnt,
 ) (operand-at t) operand.Post
@@ -725,10 +671,10 @@ pub +expression+operand-spec : {M : Type 1} → statement M
       expression.Post,
       close-group-reads.Asked,
       close-group-reads.Learnt,
-      is-binder-reads.Asked,
-      is-binder-reads.Learnt,
-      close-abstraction-reads.Asked,
-      close-abstraction-reads.Learnt,
+      open-abstractions-reads.Asked,
+      open-abstractions-reads.Learnt,
+      close-abstractions-reads.Asked,
+      close-abstractions-reads.Learnt,
       atom-reads.Asked,
       atom-reads.Learnt,
     )
@@ -745,22 +691,18 @@ pub +expression+operand-spec : {M : Type 1} → statement M
     (operand-same-length t)
     (operand-same-length-2 t)
     (operand-returns-3 t)
-    (operand-is-binder-requires t)
+    (operand-open-abstractions-requires t)
+    (operand-same-length-3 t)
     (operand-returns-4 t)
-    (operand-add-names t)
-    (operand-mul-names t)
-    (operand-shared-slice-read-names t)
-    (operand-sub-names t)
-    (operand-mul-names-2 t)
-    (operand-slice-write-names t)
+    (operand-mul-expression t)
     (operand-add-expression-2 t)
     (operand-sub-expression-2 t)
     (operand-expression-requires-2 t)
-    (operand-close-abstraction-requires t)
-    (operand-same-length-3 t)
+    (operand-close-abstractions-requires t)
     (operand-same-length-4 t)
+    (operand-same-length-5 t)
     (operand-returns-5 t)
     (operand-atom-requires t)
-    (operand-same-length-5 t)
     (operand-same-length-6 t)
+    (operand-same-length-7 t)
     (operand-returns-6 t)
