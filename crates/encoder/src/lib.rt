@@ -5,7 +5,7 @@ ghost use Prim.Native.Nat.{ℕ, _≤_, _<_};
 ghost use mathlib.Core.List.{List, _++_};
 ghost use lib.ListN.{length, take};
 ghost use Rattle.grammar.specs.Expression.{Expression};
-ghost use Rattle.grammar.specs.Postfix.{postfix, lead, total};
+ghost use Rattle.grammar.specs.Postfix.{postfix, lead, total, abstractions};
 ghost use Rattle.encoder.specs.Code.{Laid, EncodeAsks, EncodeAt, EncodeGives, NestsAsks, Nests};
 
 // Where the symbols and the bytes of a written term begin.
@@ -142,6 +142,24 @@ pub fn size(post: &[u16], n: usize) -> usize
         i += 1;
     }
     sum
+}
+
+// How many of the first `n` symbols are abstractions.
+pub fn abstractions(post: &[u16], n: usize) -> usize
+    requires { ⌜ (n ≤ length (now post)) × (n ≤ 16384) ⌝ }
+    ensures { λ r. ⌜ r ≡ abstractions (take n (now (post .entry))) ⌝ }
+{
+    let mut count = 0;
+    let mut i = 0;
+    while i < n {
+        let s = post[i];
+        i += 1;
+        if s != 4 {
+            continue;
+        }
+        count += 1;
+    }
+    count
 }
 
 // How many abstractions nest in the term whose symbols end at `p`.

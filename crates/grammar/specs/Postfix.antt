@@ -1,8 +1,10 @@
 -- An expression as symbols, operands before their operator: what the parser writes and the encoder reads, and no part of the grammar. Assumes
 -- nothing: these are definitions.
 use Prim.Native.Nat.{ℕ, zero, suc, _+_}
+use mathlib.Core.Bool.{cond}
 use mathlib.Core.List.{List, [], _∷_, _++_}
 use lib.ListN.{length}
+use lib.Dec.{eqb}
 use Rattle.calculus.specs.Bytes.{bytes}
 use Rattle.grammar.specs.Expression.{Expression, leaf, var, app, abs, not, and, or, implies}
 use Rattle.grammar.specs.Meaning.{andTree, orTree, impliesTree, notTree}
@@ -33,3 +35,8 @@ lead (suc (suc (suc (suc (suc (suc (suc i))))))) = 3 ∷ (i ∷ [])
 unfoldable pub total : List ℕ → ℕ
 total [] = 0
 total (s ∷ l) = length (lead s) + total l
+
+-- how many of the symbols are abstractions
+unfoldable pub abstractions : List ℕ → ℕ
+abstractions [] = 0
+abstractions (s ∷ l) = cond (eqb s 4) (suc (abstractions l)) (abstractions l)

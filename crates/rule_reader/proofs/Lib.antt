@@ -1,2 +1,2 @@
--- The laws that the proofs of the functions cite.
-pub mod Giving
+-- The law that the proof of `rule_text` cites.
+pub mod Lengths

@@ -1,79 +1,15 @@
-// Rule text to a rule's bytes. The definition and the laws that callers cite are in the crate `grammar`; specs/ says what the functions ask. Assumes
-// nothing.
+// Rule text to a rule's bytes, with arrays of its own. The definition is in the crate `grammar`. Assumes nothing.
 //
-// The words of a text, the names around a place and the symbols lie in local arrays, whose size goes by the text's length.
+// The arrays are in six sizes, so that a text pays for arrays about as long as it needs. The longest are met after the most tests: a compiler that
+// takes a call behind many tests for a rare one gives its arrays a frame of their own, which the shorter texts then do not touch.
 ghost use mathlib.Core.Path.{_≡_};
 ghost use mathlib.Core.List.{[]};
-ghost use mathlib.Core.Option.{some};
 ghost use Prim.Native.Nat.{_≤_};
 ghost use lib.ListN.{length};
-ghost use Rattle.calculus.specs.Bytes.{bytes, rule};
 ghost use Rattle.table.specs.Outcome.{wholeOut};
-ghost use Rattle.grammar.specs.Expression.{Expression};
-ghost use Rattle.grammar.specs.Meaning.{termOf};
-ghost use Rattle.grammar.specs.Text.{ofWords};
-ghost use Rattle.grammar.specs.Outcome.{ofBytes, ofReading, ruleText};
-ghost use Rattle.rule_reader.specs.Code.{Stands, StandsSome, WordRoom, TextRoom};
+ghost use Rattle.grammar.specs.Outcome.{ruleText};
 use grammar::Encoded;
-use lexer::Lexed;
-use parser::Parsed;
 use table::Refusal;
-
-// The bytes of the term whose symbols are the first `end`: 5, then 10, then the bytes.
-fn give(post: &[u16], end: usize, out: &mut [u8]) -> Encoded
-    requires { ⌜ StandsSome (now post) end ⌝ }
-    ensures { λ r. ⌜ ((e : Expression) → Stands e (now (post .entry)) end
-        → wholeOut r [] [] (now (out .exit)) ≡ ofBytes (bytes (termOf e)) (rule (bytes (termOf e))) (now (out .entry))) ⌝ }
-{
-    if post[end - 1] != 4 {
-        return Encoded::Refused(Refusal::Rule);
-    }
-    let n = encoder::size(post, end);
-    if 4096 < n {
-        return Encoded::Refused(Refusal::Rule);
-    }
-    let nested = encoder::nesting(post, end);
-    if 16 < nested.depth {
-        return Encoded::Refused(Refusal::Rule);
-    }
-    if out.len() < n {
-        return Encoded::Refused(Refusal::Out);
-    }
-    encoder::encode(post, end, out, n);
-    Encoded::Bytes(n)
-}
-
-// Reads words: 12 where they are no expression, or something follows one.
-fn read_words(words: &[u64], names: &mut [u64], post: &mut [u16], out: &mut [u8]) -> Encoded
-    requires { ⌜ WordRoom (now words) (now names) (now post) ⌝ }
-    ensures { λ r. ⌜ wholeOut r [] [] (now (out .exit)) ≡ ofReading (ofWords (some (now (words .entry)))) (now (out .entry)) ⌝ }
-{
-    let k = names.len();
-    let Parsed::Phrase { next, end } = parser::expression(words, 0, 32, names, k, post, 0) else {
-        return Encoded::Refused(Refusal::RuleText);
-    };
-    if next < words.len() {
-        return Encoded::Refused(Refusal::RuleText);
-    }
-    give(post, end, out)
-}
-
-// Reads a text for which the arrays have room.
-fn read_text(
-    text: &[u8],
-    words: &mut [u64],
-    names: &mut [u64],
-    post: &mut [u16],
-    out: &mut [u8],
-) -> Encoded
-    requires { ⌜ TextRoom (now text) (now words) (now names) (now post) ⌝ }
-    ensures { λ r. ⌜ wholeOut r [] [] (now (out .exit)) ≡ ruleText (now (text .entry)) (now (out .entry)) ⌝ }
-{
-    let Lexed::Words(n) = lexer::lex(text, words) else {
-        return Encoded::Refused(Refusal::RuleText);
-    };
-    read_words(&words[..n], names, post, out)
-}
 
 // A text of at most 32 bytes.
 fn read_32(text: &[u8], out: &mut [u8]) -> Encoded
@@ -83,7 +19,7 @@ fn read_32(text: &[u8], out: &mut [u8]) -> Encoded
     let mut words = [0u64; 32];
     let mut names = [0u64; 11];
     let mut post = [0u16; 64];
-    read_text(text, &mut words, &mut names, &mut post, out)
+    text_reader::read_text(text, &mut words, &mut names, &mut post, out)
 }
 
 // A text of at most 128 bytes.
@@ -94,7 +30,7 @@ fn read_128(text: &[u8], out: &mut [u8]) -> Encoded
     let mut words = [0u64; 128];
     let mut names = [0u64; 43];
     let mut post = [0u16; 256];
-    read_text(text, &mut words, &mut names, &mut post, out)
+    text_reader::read_text(text, &mut words, &mut names, &mut post, out)
 }
 
 // A text of at most 512 bytes.
@@ -105,7 +41,7 @@ fn read_512(text: &[u8], out: &mut [u8]) -> Encoded
     let mut words = [0u64; 512];
     let mut names = [0u64; 171];
     let mut post = [0u16; 1024];
-    read_text(text, &mut words, &mut names, &mut post, out)
+    text_reader::read_text(text, &mut words, &mut names, &mut post, out)
 }
 
 // A text of at most 1,024 bytes.
@@ -116,7 +52,7 @@ fn read_1024(text: &[u8], out: &mut [u8]) -> Encoded
     let mut words = [0u64; 1024];
     let mut names = [0u64; 342];
     let mut post = [0u16; 2048];
-    read_text(text, &mut words, &mut names, &mut post, out)
+    text_reader::read_text(text, &mut words, &mut names, &mut post, out)
 }
 
 // A text of at most 2,048 bytes.
@@ -127,7 +63,7 @@ fn read_2048(text: &[u8], out: &mut [u8]) -> Encoded
     let mut words = [0u64; 2048];
     let mut names = [0u64; 683];
     let mut post = [0u16; 4096];
-    read_text(text, &mut words, &mut names, &mut post, out)
+    text_reader::read_text(text, &mut words, &mut names, &mut post, out)
 }
 
 // A text of at most 8,192 bytes.
@@ -138,7 +74,7 @@ fn read_8192(text: &[u8], out: &mut [u8]) -> Encoded
     let mut words = [0u64; 8192];
     let mut names = [0u64; 2731];
     let mut post = [0u16; 16384];
-    read_text(text, &mut words, &mut names, &mut post, out)
+    text_reader::read_text(text, &mut words, &mut names, &mut post, out)
 }
 
 // Reads a rule text and writes the bytes of its term: 12, then 5, then 10.

@@ -1,5 +1,5 @@
 -- `rule_reader::rule_text` meets its contract: the text's length. Assumes nothing.
-use Rattle.rule_reader.proofs.Giving.{text-long}
+use Rattle.rule_reader.proofs.Lengths.{text-long}
 use borrow.Author.Needs.{needs}
 use Rattle.rule_reader.proofs.rule_text.Statement.{statement}
 use Rattle.rule_reader.proofs.rule_text.Tie as tie

@@ -1,12 +1,15 @@
 -- Laws of giving a term's bytes, and of reading words and text. Assumes nothing.
 use Prim.Native.Nat.{ℕ, suc, _+_, _-_, _≤_, _<_}
 use mathlib.Core.Path.{_≡_, refl, sym, ap, subst, _∙_}
+use mathlib.Core.Bool.{Bool, true, false}
+use mathlib.Core.Bool as bool
 use mathlib.Core.List.{List, [], _∷_, _++_}
 use mathlib.Core.Option.{Option, none, some}
 use native.Mathlib.Omega.{arith}
 use lib.ListN.{length, getD, take, drop, drop-of-length-le}
 use lib.Seq.{drop-cons, length-take-le}
-use borrow.Author.Tests.{le-leb, lt-leb}
+use lib.Dec.{leb}
+use borrow.Author.Tests.{le-leb, lt-leb, leb-true, leb-false, not-true, not-false}
 use Rattle.calculus.specs.Term.{Term, ClosedUnder, nesting}
 use Rattle.calculus.specs.Bytes.{bytes, rule, IsRule}
 use Rattle.calculus.proofs.Rule.{rule-exact, bytes-unique}
@@ -14,7 +17,7 @@ use Rattle.table.specs.Outcome.{Outcome, wholeOut}
 use Rattle.table.specs.declared.Refusal.the-variants.{Rule, Out, RuleText}
 use Rattle.grammar.specs.Expression.{Expression, leaf, var, app, abs, not, and, or, implies}
 use Rattle.grammar.specs.Meaning.{termOf, K, I, stemOfStem, andTree, orTree, impliesTree, notTree}
-use Rattle.grammar.specs.Postfix.{total}
+use Rattle.grammar.specs.Postfix.{total, abstractions}
 use Rattle.grammar.specs.Reader.{nothing, read, empty, parse}
 use Rattle.grammar.specs.Words.{tokens, token, lex}
 use Rattle.grammar.specs.Text.{allRead, ofWords, readText}
@@ -26,11 +29,12 @@ use Rattle.grammar.proofs.Text.{closed}
 use Rattle.parser.specs.Code.{Asks, Phrased}
 use Rattle.encoder.specs.Code.{Small, EncodeAt, EncodeGives, Nests}
 use Rattle.encoder.proofs.Storing.{total-postfix}
+use Rattle.encoder.proofs.Counting.{nests-few}
 use Rattle.encoder.proofs.Writing.{symbol, is-symbol, has-symbol}
 use Rattle.lexer.specs.Code.{Lexes}
 use Rattle.lexer.specs.declared.Lexed.{Lexed}
 use Rattle.lexer.specs.declared.Lexed.the-variants.{Words, Broken}
-use Rattle.rule_reader.specs.Code.{Stands, WordRoom, TextRoom}
+use Rattle.text_reader.specs.Code.{Stands, WordRoom, TextRoom}
 
 -- closed terms with few abstractions nested have small variables
 small : (e : Expression) (d : ℕ) → ClosedUnder d (termOf e) → d + nesting (termOf e) ≤ 16 → Small e
@@ -107,47 +111,60 @@ module _ (e : Expression) (post : List ℕ) (end : ℕ) (q : Stands e post end) 
     pub too-long : (out : List ℕ) → 4096 < n → Given e out (Refused Rule) out
     too-long out h = refuses out (none-of (bytes (termOf e)) (λ t r. omega (arith, r .short, counted)))
 
-    module _ (m i : ℕ) (d : Nests e [] i m) where
-      pub too-deep : (out : List ℕ) → 16 < m → Given e out (Refused Rule) out
-      too-deep out h = refuses out (none-of (bytes (termOf e)) (λ t r.
-          let z : t ≡ termOf e = bytes-unique t (termOf e) (r .whole) in
-          omega (arith, r .shallow, d .deep, ap nesting z)))
+    pub too-deep : (out : List ℕ) (z : Bool) → z ≡ leb (nesting (termOf e)) 16 → bool.not z ≡ true → Given e out (Refused Rule) out
+    too-deep out z d n = refuses out (none-of (bytes (termOf e)) (λ t r.
+        let y : t ≡ termOf e = bytes-unique t (termOf e) (r .whole) in
+        let k = leb-false (nesting (termOf e)) 16 (sym d ∙ not-true z n) in
+        omega (arith, r .shallow, k, ap nesting y)))
 
-      -- 10, or the bytes: the term is a rule
-      module _ (a : getD post (end - 1) 0 ≡ 4) (l : n ≤ 4096) (h : m ≤ 16) where
-        is-rule : rule (bytes (termOf e)) ≡ some (termOf e)
-        unfolding termOf
-        is-rule =
-            let b = is-abs e (sym ends-symbol ∙ a) in
-            rule-exact (bytes (termOf e)) (termOf e) .1 (record {
-              body = termOf (b .body);
-              begins = ap termOf (b .is);
-              whole = refl;
-              closed = q .closed;
-              short = omega (arith, counted);
-              shallow = omega (arith, d .deep);
-            })
+    -- 10, or the bytes: the term is a rule
+    module _ (a : getD post (end - 1) 0 ≡ 4) (l : n ≤ 4096) (y : Bool) (d : y ≡ leb (nesting (termOf e)) 16) (o : bool.not y ≡ false) where
+      shallow : nesting (termOf e) ≤ 16
+      shallow = leb-true (nesting (termOf e)) 16 (sym d ∙ not-false y o)
 
-        pub no-room : (out : List ℕ) → length out < n → Given e out (Refused Out) out
-        unfolding ofBytes intoOut
-        no-room out g = let k : length out < length (bytes (termOf e)) = omega (arith, counted) in rw (is-rule, lt-leb _ _ k)
+      is-rule : rule (bytes (termOf e)) ≡ some (termOf e)
+      unfolding termOf
+      is-rule =
+          let b = is-abs e (sym ends-symbol ∙ a) in
+          rule-exact (bytes (termOf e)) (termOf e) .1 (record {
+            body = termOf (b .body);
+            begins = ap termOf (b .is);
+            whole = refl;
+            closed = q .closed;
+            short = omega (arith, counted);
+            shallow = shallow;
+          })
 
-        pub encode-at : (out : List ℕ) → n ≤ length out → EncodeAt e [] post end out n
-        encode-at out g = record {
-          stands = q .stands;
-          within = q .within;
-          room = omega (arith, counted);
-          inside = g;
-          small = small e 0 (q .closed) (omega (arith, d .deep));
-        }
+      pub no-room : (out : List ℕ) → length out < n → Given e out (Refused Out) out
+      unfolding ofBytes intoOut
+      no-room out g = let k : length out < length (bytes (termOf e)) = omega (arith, counted) in rw (is-rule, lt-leb _ _ k)
 
-        pub encoded : (out : List ℕ) → n ≤ length out → (from at : ℕ) (w : List ℕ) → EncodeGives e [] out n from at w → Given e out (Bytes n) w
-        unfolding ofBytes intoOut
-        encoded out g from at w x =
-            let z : at ≡ 0 = omega (arith, x .laid .ends, counted) in
-            let k : length (bytes (termOf e)) ≤ length out = omega (arith, counted) in
-            let y : w ≡ bytes (termOf e) ++ drop n out = ap (λ (i : ℕ). drop i w) (sym z) ∙ x .laid .stored in
-            rw (is-rule, le-leb _ _ k, y, counted)
+      pub encode-at : (out : List ℕ) → n ≤ length out → EncodeAt e [] post end out n
+      encode-at out g = record {
+        stands = q .stands;
+        within = q .within;
+        room = omega (arith, counted);
+        inside = g;
+        small = small e 0 (q .closed) (omega (arith, shallow));
+      }
+
+      pub encoded : (out : List ℕ) → n ≤ length out → (from at : ℕ) (w : List ℕ) → EncodeGives e [] out n from at w → Given e out (Bytes n) w
+      unfolding ofBytes intoOut
+      encoded out g from at w x =
+          let z : at ≡ 0 = omega (arith, x .laid .ends, counted) in
+          let k : length (bytes (termOf e)) ≤ length out = omega (arith, counted) in
+          let y : w ≡ bytes (termOf e) ++ drop n out = ap (λ (i : ℕ). drop i w) (sym z) ∙ x .laid .stored in
+          rw (is-rule, le-leb _ _ k, y, counted)
+
+-- how many abstractions nest
+module _ (e : Expression) (post : List ℕ) (end : ℕ) (q : Stands e post end) where
+  pub few-shallow : (c : ℕ) → c ≡ abstractions (take end post) → c ≤ 16 → true ≡ leb (nesting (termOf e)) 16
+  few-shallow c s h =
+      let k : nesting (termOf e) ≤ 16 = omega (arith, nests-few e, s, ap abstractions (q .stands)) in
+      sym (le-leb (nesting (termOf e)) 16 k)
+
+  pub nests-shallow : (m i : ℕ) → Nests e [] i m → leb m 16 ≡ leb (nesting (termOf e)) 16
+  nests-shallow m i d = ap (λ (k : ℕ). leb k 16) (d .deep)
 
 -- words
 module _ (ws names post : List ℕ) (k : ℕ) (g : length names ≤ k) where
@@ -195,10 +212,6 @@ words-asks ws names post h =
     record { within = omega arith; few = h .few; space = h .space; room = omega arith; scope = omega (arith, h .names-enough); inside = omega arith; short = h .names-few }
 
 -- text
-pub text-long : (l out : List ℕ) → 8192 < length l → wholeOut (Refused RuleText) [] [] out ≡ ruleText l out
-unfolding ruleText ofReading readText
-text-long l out h = rw (lt-leb (length l) 8192 h)
-
 pub text-broken : (l out : List ℕ) → length l ≤ 8192 → lex 0 0 l ≡ none → wholeOut (Refused RuleText) [] [] out ≡ ruleText l out
 unfolding ruleText ofReading readText ofWords
 text-broken l out h e = rw (le-leb (length l) 8192 h, e)

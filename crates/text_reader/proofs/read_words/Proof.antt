@@ -1,11 +1,11 @@
--- `rule_reader::read_words` meets its contract: one expression, and no more. Assumes nothing.
+-- `text_reader::read_words` meets its contract: one expression, and no more. Assumes nothing.
 use native.Mathlib.Omega.{arith}
 use lib.ListN.{length}
 use Rattle.parser.proofs.Phrases.{told-phrase, told-nothing}
-use Rattle.rule_reader.proofs.Giving.{words-asks, words-none, words-more, words-stand, words-given}
+use Rattle.text_reader.proofs.Giving.{words-asks, words-none, words-more, words-stand, words-given}
 use borrow.Author.Needs.{needs}
-use Rattle.rule_reader.proofs.read_words.Statement.{statement}
-use Rattle.rule_reader.proofs.read_words.Tie as tie
+use Rattle.text_reader.proofs.read_words.Statement.{statement}
+use Rattle.text_reader.proofs.read_words.Tie as tie
 
 expression-requires : tie.Need-expression-requires
 expression-requires c κs = words-asks _ _ _ (c .before .before .before .before .before .before .pre)

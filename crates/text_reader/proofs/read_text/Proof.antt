@@ -1,10 +1,10 @@
--- `rule_reader::read_text` meets its contract: words, and none. Assumes nothing.
+-- `text_reader::read_text` meets its contract: words, and none. Assumes nothing.
 use mathlib.Core.Path.{sym}
 use lib.Seq.{length-take-le}
-use Rattle.rule_reader.proofs.Giving.{text-broken, text-read, text-words, lexed-words, lexed-broken}
+use Rattle.text_reader.proofs.Giving.{text-broken, text-read, text-words, lexed-words, lexed-broken}
 use borrow.Author.Needs.{needs}
-use Rattle.rule_reader.proofs.read_text.Statement.{statement}
-use Rattle.rule_reader.proofs.read_text.Tie as tie
+use Rattle.text_reader.proofs.read_text.Statement.{statement}
+use Rattle.text_reader.proofs.read_text.Tie as tie
 
 lex-requires : tie.Need-lex-requires
 lex-requires c κs = c .before .before .before .before .before .before .pre .words-enough
