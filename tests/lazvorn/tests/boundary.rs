@@ -349,6 +349,9 @@ fn rule_text_in_a_stack_of_one_megabyte() {
         // The most abstractions that a text has room for, with a bound and an unbound name.
         refused_text(&row(b"", br"\a.", 2_730, b"a"), 9, RULE);
         refused_text(&row(b"", br"\a.", 2_730, b"b"), 9, RULE_TEXT);
+        // Abstractions that stand apart nest deepest in the parser, and deeper still in parentheses.
+        refused_text(&row(b"", br"\a.!", 2_047, b"a"), 9, RULE);
+        refused_text(&row(&b"(".repeat(32), br"\a.!", 2_040, b""), 9, RULE_TEXT);
         // Texts of 8,192 bytes: operands, `!` and `>`.
         refused_text(&row(br"\x.", b"^", 8_189, b""), 9, RULE);
         refused_text(&row(br"\x.", b"!", 8_188, b"x"), 9, RULE);
