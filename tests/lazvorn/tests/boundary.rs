@@ -341,7 +341,7 @@ fn rule_text_refusals_in_order() {
 }
 
 #[test]
-fn rule_text_in_a_stack_of_one_megabyte() {
+fn rule_text_on_a_stack_of_1_mib() {
     let texts = || {
         let row = |start: &[u8], part: &[u8], times, end: &[u8]| {
             [start, &part.repeat(times), end].concat()
