@@ -1,19 +1,19 @@
 -- Laws of phrases, and of the loop over the operands of an expression. Assumes nothing.
 use Prim.Native.Nat.{ℕ, _+_, _*_, _≤_, _<_}
 use mathlib.Core.Path.{_≡_, refl, sym, ap, subst, _∙_}
-use mathlib.Core.List.{List, [], _∷_, _++_, append-assoc, append-nil}
-use mathlib.Core.Option.{Option, none, some}
+use mathlib.Core.List.{List, _++_, append-assoc, append-nil}
+use mathlib.Core.Option.{none}
 use native.Mathlib.Omega.{arith}
 use lib.ListN.{length, take, drop, length-drop, length-append}
 use lib.Seq.{length-take-le}
 use Rattle.grammar.specs.Expression.{Expression}
-use Rattle.grammar.specs.Reader.{Read, nothing, read, Unclosed, empty, follow, parse, more, operand}
+use Rattle.grammar.specs.Reader.{Read, nothing, read, empty, follow, parse, more, operand}
 use Rattle.grammar.specs.Words.{tokens}
 use Rattle.grammar.specs.Postfix.{postfix}
 use Rattle.grammar.proofs.Sound.{sound, sound-operand}
 use Rattle.grammar.proofs.Size.{size}
 use Rattle.grammar.proofs.Places.{tokens-length}
-use Rattle.operators.specs.Code.{Begun, applied, count, symbols, symbolsOf, flat, sum, notedBy, AfterAsks, Goes, Stepped, Afters}
+use Rattle.operators.specs.Code.{Begun, applied, count, symbols, symbolsOf, flat, notedBy, AfterAsks, Goes, Stepped, Afters}
 use Rattle.operators.specs.declared.Waiting.{Waiting}
 use Rattle.operators.specs.declared.Step.{Step}
 use Rattle.operators.specs.declared.Step.the-variants as step

@@ -1,9 +1,6 @@
 -- `parser::atom` meets its contract: a leaf, a bound name, and neither. Assumes nothing.
-use mathlib.Core.Path.{_≡_}
 use native.Mathlib.Omega.{arith}
-use lib.ListN.{drop, getD}
-use mathlib.Core.Option.{some}
-use Rattle.grammar.specs.Reader.{lookup}
+use lib.ListN.{getD}
 use Rattle.parser.proofs.Operands.{found-at, found-none, lookup-less, atom-leaf, atom-other, atom-unbound, atom-bound}
 use borrow.Author.Needs.{needs}
 use Rattle.parser.proofs.atom.Statement.{statement}

@@ -1,5 +1,4 @@
 -- `parser::close_group` meets its contract: each way to fail. Assumes nothing.
-use native.Mathlib.Omega.{arith}
 use Rattle.parser.proofs.Groups.{closed-nothing, closed-cut, closed-other, closed-group}
 use borrow.Author.Needs.{needs}
 use Rattle.parser.proofs.close_group.Statement.{statement}
