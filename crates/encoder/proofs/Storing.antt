@@ -1,15 +1,12 @@
--- Laws of stores before a place, and of symbols. Assumes nothing.
-use Prim.Native.Nat.{ℕ, zero, suc, _+_, _-_, _≤_, _<_}
+-- Laws of stores before a place. Assumes nothing.
+use Prim.Native.Nat.{ℕ, suc, _+_, _-_, _≤_, _<_}
 use mathlib.Core.Path.{_≡_, refl, sym, ap, subst, _∙_}
 use mathlib.Core.List.{List, [], _∷_, _++_}
 use native.Mathlib.Omega.{arith}
 use native.Mathlib.Numerals.{add-one}
-use lib.ListN.{length, getD, take, drop, set, length-set, length-append}
-use lib.Seq.{drop-cons, drop-length, drop-set-lt, getD-set-same, getD-take, take-take, take-set-le, take-suc, take-append-seam, getD-append-seam, length-take-le}
-use Rattle.calculus.specs.Bytes.{bytes}
-use Rattle.grammar.specs.Expression.{Expression, leaf, var, app, abs, not, and, or, implies}
-use Rattle.grammar.specs.Meaning.{termOf, andTree, orTree, impliesTree, notTree}
-use Rattle.grammar.specs.Postfix.{postfix, lead, total}
+use lib.ListN.{length, getD, take, drop, set, length-set}
+use lib.Seq.{drop-cons, drop-length, drop-set-lt, getD-set-same, take-take, take-set-le}
+use Rattle.grammar.specs.Postfix.{lead}
 use Rattle.encoder.specs.Code.{Laid}
 
 -- a store at j, seen from j
@@ -67,89 +64,5 @@ laid-var l o s h g t =
       kept = take-set-le (o - 2) (set l (o - 1) (s - 7)) (o - 2) 3 (omega arith) ∙ take-set-le (o - 2) l (o - 1) (s - 7) (omega arith);
     }
 
-pub lead-var : (s : ℕ) → 7 ≤ s → length (lead s) ≡ 2
-unfolding lead
-lead-var s t =
-    let e : s ≡ suc (suc (suc (suc (suc (suc (suc (s - 7))))))) = omega arith in
-    ap (λ (i : ℕ). length (lead i)) e
-
--- the last symbol
-pub record Last (post : List ℕ) (p : ℕ) (zs : List ℕ) (s : ℕ) : Type 0 where
-  pub some : 0 < p
-  pub is : getD post (p - 1) 0 ≡ s
-  pub rest : take (p - 1) post ≡ zs
-
-pub last : (post : List ℕ) (p : ℕ) (zs : List ℕ) (s : ℕ) → p ≤ length post → take p post ≡ zs ++ (s ∷ []) → Last post p zs s
-last post p zs s h e =
-    let n : length zs + 1 ≡ p = omega (arith, ap length e, length-take-le p post h, length-append zs (s ∷ [])) in
-    let z : length zs ≡ p - 1 = omega arith in
-    let g : getD post (p - 1) 0 ≡ s =
-    sym (getD-take p post (p - 1) 0 (omega arith)) ∙ ap (λ (l : List ℕ). getD l (p - 1) 0) e
-    ∙ ap (λ (i : ℕ). getD (zs ++ (s ∷ [])) i 0) (sym z) ∙ getD-append-seam zs s [] 0 in
-    let r : take (p - 1) post ≡ zs =
-    sym (take-take (p - 1) p post (omega arith)) ∙ ap (take (p - 1)) e
-    ∙ ap (λ (i : ℕ). take i (zs ++ (s ∷ []))) (sym z) ∙ take-append-seam zs (s ∷ []) in
-    record { some = omega arith; is = g; rest = r }
-
--- a beginning of the symbols
-pub beginning : (post : List ℕ) (p : ℕ) (xs ys : List ℕ) → take p post ≡ xs ++ ys → p ≤ length post → take (length xs) post ≡ xs
-beginning post p xs ys e h =
-    let n : length xs ≤ p = omega (arith, ap length e, length-take-le p post h, length-append xs ys) in
-    sym (take-take (length xs) p post n) ∙ ap (take (length xs)) e ∙ take-append-seam xs ys
-
--- the size of a term's bytes is counted by symbols
-total-append : (xs ys : List ℕ) → total (xs ++ ys) ≡ total xs + total ys
-unfolding total
-total-append [] ys = omega arith
-total-append (s ∷ xs) ys = omega (arith, total-append xs ys)
-
-total-one : (xs : List ℕ) (s : ℕ) → total (xs ++ (s ∷ [])) ≡ total xs + length (lead s)
-unfolding total
-total-one xs s = omega (arith, total-append xs (s ∷ []))
-
-total-two : (xs ys : List ℕ) (s : ℕ) → total (xs ++ (ys ++ (s ∷ []))) ≡ total xs + total ys + length (lead s)
-total-two xs ys s = omega (arith, total-append xs (ys ++ (s ∷ [])), total-one ys s)
-
-pub total-take : (l : List ℕ) (i : ℕ) → i < length l → total (take (i + 1) l) ≡ total (take i l) + length (lead (getD l i 0))
-total-take l i h = rw (add-one, take-suc l i 0 h) (total-one (take i l) (getD l i 0))
-
-pub total-postfix : (e : Expression) → total (postfix e) ≡ length (bytes (termOf e))
-unfolding total postfix lead termOf bytes
-total-postfix leaf = refl
-total-postfix (var i) = let z : i + 7 ≡ suc (suc (suc (suc (suc (suc (suc i)))))) = omega arith in ap (λ (k : ℕ). total (k ∷ [])) z
-total-postfix (app f a) = omega (arith, total-two (postfix f) (postfix a) 0, total-postfix f, total-postfix a, length-append (bytes (termOf f)) (bytes (termOf a)))
-total-postfix (abs b) = omega (arith, total-one (postfix b) 4, total-postfix b)
-total-postfix (not a) = omega (arith, total-one (postfix a) 5, total-postfix a, length-append (bytes notTree) (bytes (termOf a)))
-total-postfix (and a b) =
-    omega (arith, total-two (postfix a) (postfix b) 1, total-postfix a, total-postfix b, length-append (1 ∷ (bytes andTree ++ bytes (termOf a))) (bytes (termOf b)), length-append (bytes andTree) (bytes (termOf a)))
-total-postfix (or a b) =
-    omega (arith, total-two (postfix a) (postfix b) 2, total-postfix a, total-postfix b, length-append (1 ∷ (bytes orTree ++ bytes (termOf a))) (bytes (termOf b)), length-append (bytes orTree) (bytes (termOf a)))
-total-postfix (implies a b) =
-    omega (arith, total-two (postfix a) (postfix b) 3, total-postfix a, total-postfix b, length-append (1 ∷ (bytes impliesTree ++ bytes (termOf a))) (bytes (termOf b)), length-append (bytes impliesTree) (bytes (termOf a)))
-
-pub seven : (s : ℕ) → (s ≡ 0 → ⊥) → (s ≡ 1 → ⊥) → (s ≡ 2 → ⊥) → (s ≡ 3 → ⊥) → (s ≡ 4 → ⊥) → (s ≡ 5 → ⊥) → (s ≡ 6 → ⊥) → 7 ≤ s
-seven zero n0 n1 n2 n3 n4 n5 n6 = absurd (n0 refl)
-seven (suc zero) n0 n1 n2 n3 n4 n5 n6 = absurd (n1 refl)
-seven (suc (suc zero)) n0 n1 n2 n3 n4 n5 n6 = absurd (n2 refl)
-seven (suc (suc (suc zero))) n0 n1 n2 n3 n4 n5 n6 = absurd (n3 refl)
-seven (suc (suc (suc (suc zero)))) n0 n1 n2 n3 n4 n5 n6 = absurd (n4 refl)
-seven (suc (suc (suc (suc (suc zero))))) n0 n1 n2 n3 n4 n5 n6 = absurd (n5 refl)
-seven (suc (suc (suc (suc (suc (suc zero)))))) n0 n1 n2 n3 n4 n5 n6 = absurd (n6 refl)
-seven (suc (suc (suc (suc (suc (suc (suc s))))))) n0 n1 n2 n3 n4 n5 n6 = omega arith
-
-pub lead-one : (s : ℕ) → s < 7 → (s ≡ 1 → ⊥) → (s ≡ 2 → ⊥) → (s ≡ 3 → ⊥) → (s ≡ 5 → ⊥) → length (lead s) ≡ 1
-unfolding lead
-lead-one zero h a b c d = refl
-lead-one (suc zero) h a b c d = absurd (a refl)
-lead-one (suc (suc zero)) h a b c d = absurd (b refl)
-lead-one (suc (suc (suc zero))) h a b c d = absurd (c refl)
-lead-one (suc (suc (suc (suc zero)))) h a b c d = refl
-lead-one (suc (suc (suc (suc (suc zero))))) h a b c d = absurd (d refl)
-lead-one (suc (suc (suc (suc (suc (suc zero)))))) h a b c d = refl
-lead-one (suc (suc (suc (suc (suc (suc (suc s))))))) h a b c d = absurd (omega arith)
-
 pub byte-fits : (s : ℕ) → 7 ≤ s → s < 263 → s - 7 < 256
 byte-fits s h g = omega arith
-
-pub six : (s : ℕ) → 4 ≤ s → (s ≡ 4 → ⊥) → (s ≡ 5 → ⊥) → 6 ≤ s
-six s h a b = omega arith

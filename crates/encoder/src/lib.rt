@@ -1,23 +1,16 @@
-// The term of postfix symbols, in bytes: its size, how deep its abstractions nest, and its bytes, written from their end. What the symbols mean is in
-// the crate `grammar`; specs/ says what the functions ask and give in its terms. Assumes nothing.
-ghost use mathlib.Core.Path.{_≡_};
+// The bytes of the term of postfix symbols, written from their end. What the symbols mean is in the crate `grammar`; specs/ says what the functions ask
+// and give in its terms. Assumes nothing.
 ghost use Prim.Native.Nat.{ℕ, _≤_, _<_};
-ghost use mathlib.Core.List.{List, _++_};
-ghost use lib.ListN.{length, take};
+ghost use mathlib.Core.List.{List};
+ghost use lib.ListN.{length};
 ghost use Rattle.grammar.specs.Expression.{Expression};
-ghost use Rattle.grammar.specs.Postfix.{postfix, lead, total, abstractions};
-ghost use Rattle.encoder.specs.Code.{Laid, EncodeAsks, EncodeAt, EncodeGives, NestsAsks, Nests};
+ghost use Rattle.grammar.specs.Postfix.{postfix, lead};
+ghost use Rattle.encoder.specs.Code.{Laid, EncodeAsks, EncodeAt, EncodeGives};
 
 // Where the symbols and the bytes of a written term begin.
 pub struct Begins {
     pub from: usize,
     pub at: usize,
-}
-
-// Where the symbols of a term begin, and how many abstractions nest in it.
-pub struct Nested {
-    pub from: usize,
-    pub depth: usize,
 }
 
 // Copies bytes to the place that ends at `o`; where they begin.
@@ -106,92 +99,4 @@ pub fn encode(post: &[u16], p: usize, out: &mut [u8], o: usize) -> Begins
     }
     let at = put_lead(out, o, s);
     Begins { from: p - 1, at }
-}
-
-// How many bytes a symbol puts before its operands.
-fn lead_size(s: u16) -> usize
-    ensures { λ r. ⌜ (r ≡ length (lead s)) × (r ≤ 44) ⌝ }
-{
-    if s == 1 {
-        return 23;
-    }
-    if s == 2 {
-        return 23;
-    }
-    if s == 3 {
-        return 13;
-    }
-    if s == 5 {
-        return 44;
-    }
-    if s < 7 {
-        return 1;
-    }
-    2
-}
-
-// How many bytes the term of the first `n` symbols has.
-pub fn size(post: &[u16], n: usize) -> usize
-    requires { ⌜ (n ≤ length (now post)) × (n ≤ 16384) ⌝ }
-    ensures { λ r. ⌜ r ≡ total (take n (now (post .entry))) ⌝ }
-{
-    let mut sum = 0;
-    let mut i = 0;
-    while i < n {
-        sum += lead_size(post[i]);
-        i += 1;
-    }
-    sum
-}
-
-// How many of the first `n` symbols are abstractions.
-pub fn abstractions(post: &[u16], n: usize) -> usize
-    requires { ⌜ (n ≤ length (now post)) × (n ≤ 16384) ⌝ }
-    ensures { λ r. ⌜ r ≡ abstractions (take n (now (post .entry))) ⌝ }
-{
-    let mut count = 0;
-    let mut i = 0;
-    while i < n {
-        let s = post[i];
-        i += 1;
-        if s != 4 {
-            continue;
-        }
-        count += 1;
-    }
-    count
-}
-
-// How many abstractions nest in the term whose symbols end at `p`.
-pub fn nesting(post: &[u16], p: usize) -> Nested
-    requires { ⌜ NestsAsks (now post) p ⌝ }
-    ensures { λ r. ⌜ ((e : Expression) (xs : List ℕ) → take p (now (post .entry)) ≡ xs ++ postfix e → Nests e xs (r .from) (r .depth)) ⌝ }
-{
-    let s = post[p - 1];
-    if s < 4 {
-        let a = nesting(post, p - 1);
-        let mid = a.from;
-        let f = nesting(post, mid);
-        if a.depth < f.depth {
-            return f;
-        }
-        return Nested {
-            from: f.from,
-            depth: a.depth,
-        };
-    }
-    if s == 4 {
-        let b = nesting(post, p - 1);
-        return Nested {
-            from: b.from,
-            depth: b.depth + 1,
-        };
-    }
-    if s == 5 {
-        return nesting(post, p - 1);
-    }
-    Nested {
-        from: p - 1,
-        depth: 0,
-    }
 }

@@ -1,5 +1,5 @@
 // Rule text with operators ([3] of document 02) as definitions, in specs/, and its theorems, in proofs/. The code is in the crates `lexer`,
-// `operators`, `parser`, `encoder`, `text_reader` and `rule_reader`.
+// `operators`, `parser`, `symbols`, `encoder`, `text_reader` and `rule_reader`.
 use table::Refusal;
 
 // The answer of reading a rule text: how many bytes of a term were written.

@@ -27,10 +27,11 @@ use Rattle.grammar.specs.declared.Encoded.the-variants.{Bytes, Refused}
 use Rattle.grammar.proofs.Sound.{sound}
 use Rattle.grammar.proofs.Text.{closed}
 use Rattle.parser.specs.Code.{Asks, Phrased}
-use Rattle.encoder.specs.Code.{Small, EncodeAt, EncodeGives, Nests}
-use Rattle.encoder.proofs.Storing.{total-postfix}
-use Rattle.encoder.proofs.Counting.{nests-few}
-use Rattle.encoder.proofs.Writing.{symbol, is-symbol, has-symbol}
+use Rattle.encoder.specs.Code.{EncodeAt, EncodeGives}
+use Rattle.symbols.specs.Code.{Small, Nests}
+use Rattle.symbols.proofs.Symbols.{total-postfix}
+use Rattle.symbols.proofs.Counting.{nests-few}
+use Rattle.symbols.proofs.Symbols.{symbol, is-symbol, has-symbol}
 use Rattle.lexer.specs.Code.{Lexes}
 use Rattle.lexer.specs.declared.Lexed.{Lexed}
 use Rattle.lexer.specs.declared.Lexed.the-variants.{Words, Broken}

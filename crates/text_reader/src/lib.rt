@@ -3,12 +3,14 @@
 ghost use mathlib.Core.Path.{_≡_};
 ghost use mathlib.Core.List.{[]};
 ghost use mathlib.Core.Option.{some};
+ghost use lib.ListN.{take};
 ghost use lib.Dec.{leb};
 ghost use Rattle.calculus.specs.Term.{nesting};
 ghost use Rattle.calculus.specs.Bytes.{bytes, rule};
 ghost use Rattle.table.specs.Outcome.{wholeOut};
 ghost use Rattle.grammar.specs.Expression.{Expression};
 ghost use Rattle.grammar.specs.Meaning.{termOf};
+ghost use Rattle.grammar.specs.Postfix.{abstractions};
 ghost use Rattle.grammar.specs.Text.{ofWords};
 ghost use Rattle.grammar.specs.Outcome.{ofBytes, ofReading, ruleText};
 ghost use Rattle.text_reader.specs.Code.{Stands, StandsSome, WordRoom, TextRoom};
@@ -17,15 +19,16 @@ use lexer::Lexed;
 use parser::Parsed;
 use table::Refusal;
 
-// Whether no more than 16 abstractions nest in the term whose symbols are the first `end`. Where there are no more at all, none need be followed.
-fn is_shallow(post: &[u16], end: usize) -> bool
-    requires { ⌜ StandsSome (now post) end ⌝ }
+// Whether no more than 16 abstractions nest in the term whose symbols are the first `end`, so many of them abstractions. Where there are no more at
+// all, none need be followed.
+fn is_shallow(post: &[u16], end: usize, count: usize) -> bool
+    requires { ⌜ StandsSome (now post) end × (count ≡ abstractions (take end (now post))) ⌝ }
     ensures { λ r. ⌜ ((e : Expression) → Stands e (now (post .entry)) end → r ≡ leb (nesting (termOf e)) 16) ⌝ }
 {
-    if encoder::abstractions(post, end) <= 16 {
+    if count <= 16 {
         return true;
     }
-    let nested = encoder::nesting(post, end);
+    let nested = symbols::nesting(post, end);
     nested.depth <= 16
 }
 
@@ -38,11 +41,12 @@ fn give(post: &[u16], end: usize, out: &mut [u8]) -> Encoded
     if post[end - 1] != 4 {
         return Encoded::Refused(Refusal::Rule);
     }
-    let n = encoder::size(post, end);
+    let sizes = symbols::measure(post, end);
+    let n = sizes.bytes;
     if 4096 < n {
         return Encoded::Refused(Refusal::Rule);
     }
-    if !is_shallow(post, end) {
+    if !is_shallow(post, end, sizes.abstractions) {
         return Encoded::Refused(Refusal::Rule);
     }
     if out.len() < n {

@@ -7,7 +7,8 @@ use Rattle.calculus.specs.Bytes.{bytes}
 use Rattle.grammar.specs.Meaning.{K, I, stemOfStem, andTree, orTree, impliesTree, notTree}
 use Rattle.grammar.specs.Postfix.{lead}
 use Rattle.encoder.specs.Code.{Laid}
-use Rattle.encoder.proofs.Storing.{laid-var, lead-var, seven, byte-fits}
+use Rattle.encoder.proofs.Storing.{laid-var, byte-fits}
+use Rattle.symbols.proofs.Symbols.{lead-var, seven}
 use borrow.Author.Needs.{needs}
 use Rattle.encoder.proofs.put_lead.Statement.{statement}
 use Rattle.encoder.proofs.put_lead.Tie as tie

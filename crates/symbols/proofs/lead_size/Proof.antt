@@ -1,4 +1,4 @@
--- `encoder::lead_size` meets its contract: each symbol. Assumes nothing.
+-- `symbols::lead_size` meets its contract: each symbol. Assumes nothing.
 use native.Mathlib.Omega.{arith}
 use mathlib.Core.Path.{ap}
 use Prim.Native.Nat.{ℕ}
@@ -6,9 +6,9 @@ use lib.ListN.{length}
 use Rattle.calculus.specs.Bytes.{bytes}
 use Rattle.grammar.specs.Meaning.{K, I, stemOfStem, andTree, orTree, impliesTree, notTree}
 use Rattle.grammar.specs.Postfix.{lead}
-use Rattle.encoder.proofs.Storing.{lead-var, lead-one}
-use Rattle.encoder.proofs.lead_size.Statement.{statement}
-use Rattle.encoder.proofs.lead_size.Tie as tie
+use Rattle.symbols.proofs.Symbols.{lead-var, lead-one}
+use Rattle.symbols.proofs.lead_size.Statement.{statement}
+use Rattle.symbols.proofs.lead_size.Tie as tie
 
 returns : tie.Need-returns
 unfolding lead bytes K I stemOfStem andTree orTree impliesTree notTree

@@ -1,18 +1,18 @@
--- `encoder::nesting` meets its contract: the operands of a symbol. Assumes nothing.
+-- `symbols::nesting` meets its contract: the operands of a symbol. Assumes nothing.
 use Prim.Native.Nat.{_+_}
 use mathlib.Core.List.{_++_}
 use Rattle.grammar.specs.Postfix.{postfix}
 use native.Mathlib.Omega.{arith}
-use Rattle.encoder.proofs.Writing.{has-symbol, right-stands, left-stands, left-less, only-stands, deep-parts, deep-two, deep-body, deep-abs, deep-few, deep-operand, deep-not, deep-none}
-use Rattle.encoder.proofs.Storing.{six}
+use Rattle.symbols.proofs.Symbols.{has-symbol, right-stands, left-stands, left-less, only-stands, deep-parts, deep-two, deep-body, deep-abs, deep-few, deep-operand, deep-not, deep-none}
+use Rattle.symbols.proofs.Symbols.{six}
 use Prim.Native.Nat.{ℕ, _<_}
 use borrow.Fn.Kinds.{In}
 use borrow.Fn.PlainCycle.{Measures, is, falls, and}
-use Rattle.encoder.proofs.nesting.Reads as nesting
-use Rattle.encoder.proofs.nesting.Kinds as nesting-kinds
-use Rattle.encoder.proofs.+nesting.Lts-nesting as nesting-lts
-use Rattle.encoder.proofs.+nesting.{statement}
-use Rattle.encoder.proofs.+nesting.Tie.{close}
+use Rattle.symbols.proofs.nesting.Reads as nesting
+use Rattle.symbols.proofs.nesting.Kinds as nesting-kinds
+use Rattle.symbols.proofs.+nesting.Lts-nesting as nesting-lts
+use Rattle.symbols.proofs.+nesting.{statement}
+use Rattle.symbols.proofs.+nesting.Tie.{close}
 
 abbrev μ-nesting : Measures 1 nesting-kinds.ps ℕ
 μ-nesting κs a = a .1 .0

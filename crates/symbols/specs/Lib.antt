@@ -1,0 +1,2 @@
+-- What the contracts of the functions cite. Assumes nothing: these are definitions.
+pub mod Code
