@@ -38,6 +38,14 @@ its-rule e t q =
     let r = rule-exact (bytes (termOf e)) t .0 q in
     subst (IsRule (bytes (termOf e))) (bytes-unique t (termOf e) (r .whole)) r
 
+-- a term that is no rule, by its bytes
+pub bytes-no-rule : (e : Expression) → (IsRule (bytes (termOf e)) (termOf e) → ⊥) → rule (bytes (termOf e)) ≡ none
+bytes-no-rule e n = go (rule (bytes (termOf e))) refl
+  where
+    go : (o : Option Term) → rule (bytes (termOf e)) ≡ o → rule (bytes (termOf e)) ≡ none
+    go none q = q
+    go (some t) q = absurd (n (its-rule e t q))
+
 module _ (text out : List ℕ) where
   given-room : (e : Expression) → IsText text e → IsRule (bytes (termOf e)) (termOf e) → Gives text out (intoOut (bytes (termOf e)) out)
   unfolding intoOut
@@ -67,13 +75,6 @@ module _ (text out : List ℕ) where
       go : (x : Option Expression) → readText text ≡ x → readText text ≡ none
       go none q = q
       go (some e) q = absurd (n e (text-exact text e .0 q))
-
-  bytes-no-rule : (e : Expression) → (IsRule (bytes (termOf e)) (termOf e) → ⊥) → rule (bytes (termOf e)) ≡ none
-  bytes-no-rule e n = go (rule (bytes (termOf e))) refl
-    where
-      go : (o : Option Term) → rule (bytes (termOf e)) ≡ o → rule (bytes (termOf e)) ≡ none
-      go none q = q
-      go (some t) q = absurd (n (its-rule e t q))
 
   is-given : (o : Outcome Encoded) → Gives text out o → ruleText text out ≡ o
   unfolding ruleText ofReading ofBytes intoOut

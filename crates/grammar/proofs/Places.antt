@@ -6,8 +6,11 @@ use mathlib.Core.List.{List, [], _∷_}
 use native.Mathlib.Numerals.{add-one}
 use lib.ListN.{length, getD, drop, drop-of-length-le}
 use lib.Seq.{drop-cons}
-use Rattle.grammar.specs.Tokens.{Token, caret, opening, closing, backslash, stop, bang, ampersand, bar, arrow}
+use lib.Dec.{eqb}
+use borrow.Author.Tests.{eqb-true}
+use Rattle.grammar.specs.Tokens.{Token, caret, name, opening, closing, backslash, stop, bang, ampersand, bar, arrow, Sign}
 use Rattle.grammar.specs.Words.{token, tokens}
+use Rattle.grammar.proofs.Spelled.{sign-token}
 
 pub tokens-at : (ws : List ℕ) (at : ℕ) → at < length ws → tokens (drop at ws) ≡ token (getD ws at 0) ∷ tokens (drop (at + 1) ws)
 unfolding tokens
@@ -18,51 +21,24 @@ unfolding tokens
 tokens-end ws at h = ap tokens (drop-of-length-le ws h)
 
 -- a sign's word
-pub sign-at : (ws : List ℕ) (at : ℕ) (c : ℕ) (t : Token) → at < length ws → getD ws at 0 ≡ c → token c ≡ t → tokens (drop at ws) ≡ t ∷ tokens (drop (at + 1) ws)
-sign-at ws at c t h e q = tokens-at ws at h ∙ ap (λ (x : Token). x ∷ tokens (drop (at + 1) ws)) (ap token e ∙ q)
-
-pub is-caret : (ws : List ℕ) (at : ℕ) → at < length ws → getD ws at 0 ≡ 94 → tokens (drop at ws) ≡ caret ∷ tokens (drop (at + 1) ws)
-unfolding token
-is-caret ws at h e = sign-at ws at 94 caret h e refl
-
-pub is-opening : (ws : List ℕ) (at : ℕ) → at < length ws → getD ws at 0 ≡ 40 → tokens (drop at ws) ≡ opening ∷ tokens (drop (at + 1) ws)
-unfolding token
-is-opening ws at h e = sign-at ws at 40 opening h e refl
-
-pub is-backslash : (ws : List ℕ) (at : ℕ) → at < length ws → getD ws at 0 ≡ 92 → tokens (drop at ws) ≡ backslash ∷ tokens (drop (at + 1) ws)
-unfolding token
-is-backslash ws at h e = sign-at ws at 92 backslash h e refl
-
-pub is-closing : (ws : List ℕ) (at : ℕ) → at < length ws → getD ws at 0 ≡ 41 → tokens (drop at ws) ≡ closing ∷ tokens (drop (at + 1) ws)
-unfolding token
-is-closing ws at h e = sign-at ws at 41 closing h e refl
-
-pub is-stop : (ws : List ℕ) (at : ℕ) → at < length ws → getD ws at 0 ≡ 46 → tokens (drop at ws) ≡ stop ∷ tokens (drop (at + 1) ws)
-unfolding token
-is-stop ws at h e = sign-at ws at 46 stop h e refl
-
-pub is-bang : (ws : List ℕ) (at : ℕ) → at < length ws → getD ws at 0 ≡ 33 → tokens (drop at ws) ≡ bang ∷ tokens (drop (at + 1) ws)
-unfolding token
-is-bang ws at h e = sign-at ws at 33 bang h e refl
-
-pub is-ampersand : (ws : List ℕ) (at : ℕ) → at < length ws → getD ws at 0 ≡ 38 → tokens (drop at ws) ≡ ampersand ∷ tokens (drop (at + 1) ws)
-unfolding token
-is-ampersand ws at h e = sign-at ws at 38 ampersand h e refl
-
-pub is-bar : (ws : List ℕ) (at : ℕ) → at < length ws → getD ws at 0 ≡ 124 → tokens (drop at ws) ≡ bar ∷ tokens (drop (at + 1) ws)
-unfolding token
-is-bar ws at h e = sign-at ws at 124 bar h e refl
-
-pub is-arrow : (ws : List ℕ) (at : ℕ) → at < length ws → getD ws at 0 ≡ 62 → tokens (drop at ws) ≡ arrow ∷ tokens (drop (at + 1) ws)
-unfolding token
-is-arrow ws at h e = sign-at ws at 62 arrow h e refl
+pub sign-at : {c : ℕ} {t : Token} → Sign c t → (ws : List ℕ) (at : ℕ) → at < length ws → getD ws at 0 ≡ c → tokens (drop at ws) ≡ t ∷ tokens (drop (at + 1) ws)
+sign-at n ws at h e = tokens-at ws at h ∙ ap (λ (x : Token). x ∷ tokens (drop (at + 1) ws)) (ap token e ∙ sign-token n)
 
 pub tokens-length : (ws : List ℕ) → length (tokens ws) ≡ length ws
 unfolding tokens
 tokens-length [] = refl
 tokens-length (w ∷ ws) = ap suc (tokens-length ws)
 
--- the first of two tokens or the second
-pub pick : (P : Token → Type 0) (z : Bool) {a b : Token} → P a → P b → P (cond z a b)
-pick P true x y = x
-pick P false x y = y
+-- what holds of the token of a word, sign by sign
+pick : (P : Token → Type 0) (w c : ℕ) {a b : Token} → (w ≡ c → P a) → P b → P (cond (eqb w c) a b)
+pick P w c {a} {b} x y = go (eqb w c) refl
+  where
+    go : (z : Bool) → eqb w c ≡ z → P (cond z a b)
+    go true e = x (eqb-true w c e)
+    go false e = y
+
+pub by-token : (P : Token → Type 0) (w : ℕ) → (w ≡ 94 → P caret) → (w ≡ 40 → P opening) → (w ≡ 92 → P backslash) → (w ≡ 41 → P closing)
+    → (w ≡ 46 → P stop) → (w ≡ 33 → P bang) → (w ≡ 38 → P ampersand) → (w ≡ 124 → P bar) → (w ≡ 62 → P arrow) → P (name w) → P (token w)
+unfolding token
+by-token P w c o b k s n a r i m =
+    pick P w 94 c (pick P w 40 o (pick P w 92 b (pick P w 41 k (pick P w 46 s (pick P w 33 n (pick P w 38 a (pick P w 124 r (pick P w 62 i m))))))))

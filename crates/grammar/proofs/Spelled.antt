@@ -8,6 +8,7 @@ use native.Mathlib.Omega.{arith}
 use lib.ListN.{length}
 use lib.Dec.{eqb, ltb, leb}
 use borrow.Author.Tests.{ltb-true, lt-ltb, leb-true, le-leb, eqb-true, ne-eqb}
+use Rattle.table.proofs.Words.{zero-one}
 use Rattle.grammar.specs.Tokens.{Token, caret, name, opening, closing, backslash, stop, bang, ampersand, bar, arrow, Letter, NoLetter, LetterRun, no-more, a-letter, nameNumber, Sign, is-caret, is-opening, is-backslash, is-closing, is-stop, is-bang, is-ampersand, is-bar, is-arrow, Spells, the-end, a-space, a-sign, a-name}
 use Rattle.grammar.specs.Words.{token, tokens, letter, flush, before, isSign, separate, lex}
 
@@ -20,8 +21,8 @@ letter-is b e = go (leb 97 b) refl (leb b 122) refl e
   where
     go : (y : Bool) → leb 97 b ≡ y → (z : Bool) → leb b 122 ≡ z → (y && z) ≡ true → Letter b
     go true p true q e = (leb-true 97 b p, leb-true b 122 q)
-    go true p false q e = let w : _≡_ {A = ℕ} 0 1 = cc in absurd (omega arith)
-    go false p z q e = let w : _≡_ {A = ℕ} 0 1 = cc in absurd (omega arith)
+    go true p false q e = zero-one (cc)
+    go false p z q e = zero-one (cc)
 
 pub letter-no : (b : ℕ) → (Letter b → ⊥) → letter b ≡ false
 letter-no b n = go (letter b) refl
@@ -60,7 +61,7 @@ name-token m r b (c ∷ x) q =
     token-large (nameNumber ((0 * 256 + b) * 256 + c) x) (omega arith) (λ e. omega arith)
 
 -- signs
-sign-token : {b : ℕ} {t : Token} → Sign b t → token b ≡ t
+pub sign-token : {b : ℕ} {t : Token} → Sign b t → token b ≡ t
 unfolding token
 sign-token is-caret = refl
 sign-token is-opening = refl
@@ -93,7 +94,7 @@ is-sign b e = s94 (eqb b 94) refl e
   where
     s62 : (y : Bool) → eqb b 62 ≡ y → y ≡ true → Sign b (token b)
     s62 true q e = by-eq b 62 arrow is-arrow refl (eqb-true b 62 q)
-    s62 false q e = let w : _≡_ {A = ℕ} 0 1 = cc in absurd (omega arith)
+    s62 false q e = zero-one (cc)
 
     s124 : (y : Bool) → eqb b 124 ≡ y → cond y true (eqb b 62) ≡ true → Sign b (token b)
     s124 true q e = by-eq b 124 bar is-bar refl (eqb-true b 124 q)

@@ -7,36 +7,34 @@ use native.Mathlib.Omega.{arith}
 use native.Mathlib.Numerals.{add-one}
 use lib.ListN.{length, getD, take, drop, set, replicate, replicate-append-replicate, length-append, length-replicate}
 use lib.Seq.{take-suc-set}
-use lib.Dec.{eqb, ltb}
-use borrow.Author.Tests.{ne-eqb, ltb-true, ltb-false}
-use Rattle.grammar.specs.Tokens.{Token}
+use lib.Dec.{ltb}
+use borrow.Author.Tests.{ltb-true, ltb-false}
+use Rattle.grammar.specs.Tokens.{Token, is-closing, is-stop, is-bang}
 use Rattle.grammar.specs.Reader.{Unclosed, unclosed, parse, Starts}
 use Rattle.grammar.specs.Words.{token, tokens}
 use Rattle.grammar.proofs.Enough.{NotBang, parse-any, parse-bang, more-end, more-closing, more-stop, more-bang}
-use Rattle.grammar.proofs.Places.{tokens-at, tokens-end, is-closing, is-stop, is-bang, pick}
+use Rattle.grammar.proofs.Places.{tokens-at, tokens-end, sign-at, by-token}
 use Rattle.operators.specs.Code.{Wrote, JointAt, notedBy, Bangs}
 use Rattle.operators.specs.declared.Joint.the-variants as joint
 
 not-bang : (w : ℕ) (r : List Token) → (w ≡ 33 → ⊥) → NotBang (token w ∷ r)
-unfolding token
-not-bang w r n = pick (λ (t : Token). NotBang (t ∷ r)) (eqb w 94) tt (pick (λ (t : Token). NotBang (t ∷ r)) (eqb w 40) tt (pick (λ (t : Token). NotBang (t ∷ r)) (eqb w 92) tt (pick (λ (t : Token). NotBang (t ∷ r)) (eqb w 41) tt (pick (λ (t : Token). NotBang (t ∷ r)) (eqb w 46) tt (rw (ne-eqb w 33 n) (pick (λ (t : Token). NotBang (t ∷ r)) (eqb w 38) tt (pick (λ (t : Token). NotBang (t ∷ r)) (eqb w 124) tt (pick (λ (t : Token). NotBang (t ∷ r)) (eqb w 62) tt (tt)))))))))
+not-bang w r n = by-token (λ (t : Token). NotBang (t ∷ r)) w (λ e. tt) (λ e. tt) (λ e. tt) (λ e. tt) (λ e. tt) (λ e. absurd (n e)) (λ e. tt) (λ e. tt) (λ e. tt) tt
 
 starts : (w : ℕ) (r : List Token) → (w ≡ 41 → ⊥) → (w ≡ 38 → ⊥) → (w ≡ 124 → ⊥) → (w ≡ 62 → ⊥) → (w ≡ 46 → ⊥) → (w ≡ 33 → ⊥) → Starts (token w ∷ r)
-unfolding token
-starts w r n41 n38 n124 n62 n46 n33 = pick (λ (t : Token). Starts (t ∷ r)) (eqb w 94) tt (pick (λ (t : Token). Starts (t ∷ r)) (eqb w 40) tt (pick (λ (t : Token). Starts (t ∷ r)) (eqb w 92) tt (rw (ne-eqb w 41 n41) (rw (ne-eqb w 46 n46) (rw (ne-eqb w 33 n33) (rw (ne-eqb w 38 n38) (rw (ne-eqb w 124 n124) (rw (ne-eqb w 62 n62) (tt)))))))))
+starts w r k a b i s n = by-token (λ (t : Token). Starts (t ∷ r)) w (λ e. tt) (λ e. tt) (λ e. tt) k s n a b i tt
 
 module _ (ws : List ℕ) (at : ℕ) where
   pub joint-none : length ws ≤ at → JointAt ws at joint.End
   joint-none h = λ d Γ p e. rw (tokens-end ws at h) (more-end d Γ p e)
 
   pub joint-closing : at < length ws → getD ws at 0 ≡ 41 → JointAt ws at joint.End
-  joint-closing h q = λ d Γ p e. rw (is-closing ws at h q) (more-closing d Γ p e _)
+  joint-closing h q = λ d Γ p e. rw (sign-at is-closing ws at h q) (more-closing d Γ p e _)
 
   pub joint-stop : at < length ws → getD ws at 0 ≡ 46 → JointAt ws at joint.Broken
-  joint-stop h q = λ d Γ p e. rw (is-stop ws at h q) (more-stop d Γ p e _)
+  joint-stop h q = λ d Γ p e. rw (sign-at is-stop ws at h q) (more-stop d Γ p e _)
 
   pub joint-bang : at < length ws → getD ws at 0 ≡ 33 → JointAt ws at joint.Broken
-  joint-bang h q = λ d Γ p e. rw (is-bang ws at h q) (more-bang d Γ p e _)
+  joint-bang h q = λ d Γ p e. rw (sign-at is-bang ws at h q) (more-bang d Γ p e _)
 
   pub joint-operand : at < length ws → (getD ws at 0 ≡ 41 → ⊥) → (getD ws at 0 ≡ 38 → ⊥) → (getD ws at 0 ≡ 124 → ⊥) → (getD ws at 0 ≡ 62 → ⊥)
       → (getD ws at 0 ≡ 46 → ⊥) → (getD ws at 0 ≡ 33 → ⊥) → JointAt ws at joint.Operand
@@ -69,7 +67,7 @@ passed-more ws from n q h e = record {
   leads = λ d Γ p.
       let k : suc (p .nots + n) ≡ p .nots + (n + 1) = omega arith in
       let l : from + n + 1 ≡ from + (n + 1) = omega arith in
-      q .leads d Γ p ∙ ap (parse d Γ (notedBy n p)) (is-bang ws (from + n) h e) ∙ parse-bang d Γ (notedBy n p) _
+      q .leads d Γ p ∙ ap (parse d Γ (notedBy n p)) (sign-at is-bang ws (from + n) h e) ∙ parse-bang d Γ (notedBy n p) _
       ∙ ap (λ (i : ℕ). parse d Γ (unclosed (p .implies) (p .or) (p .and) i) (tokens (drop (from + n + 1) ws))) k
       ∙ ap (λ (i : ℕ). parse d Γ (notedBy (n + 1) p) (tokens (drop i ws))) l;
 }

@@ -10,11 +10,11 @@ use lib.Seq.{drop-cons, drop-drop, getD-set-same, drop-set-lt}
 use lib.Dec.{ltb, eqb}
 use borrow.Author.Tests.{ltb-true, ltb-false, lt-ltb, le-ltb, eqb-true, eqb-false, eq-eqb, ne-eqb, not-true, not-false}
 use Rattle.grammar.specs.Expression.{Expression, abs}
-use Rattle.grammar.specs.Tokens.{Token, caret, name, opening, closing, backslash, stop, bang, ampersand, bar, arrow}
+use Rattle.grammar.specs.Tokens.{Token, caret, name, opening, closing, backslash, stop, bang, ampersand, bar, arrow, is-opening, is-backslash, is-closing, is-stop}
 use Rattle.grammar.specs.Reader.{Read, nothing, read, empty, follow, abstracted, enclosed, body, binder, inside, operandBy, parse, operand}
 use Rattle.grammar.specs.Words.{token, tokens}
 use Rattle.grammar.specs.Postfix.{postfix}
-use Rattle.grammar.proofs.Places.{tokens-at, tokens-end, tokens-length, is-opening, is-backslash, is-closing, is-stop, pick}
+use Rattle.grammar.proofs.Places.{tokens-at, tokens-end, tokens-length, sign-at, by-token}
 use Rattle.grammar.proofs.Abstractions.{parse-backslash, parse-abstraction}
 use Rattle.operators.specs.Code.{Wrote}
 use Rattle.operators.proofs.Joints.{wrote-then}
@@ -25,12 +25,14 @@ use Rattle.parser.specs.declared.Parsed.the-variants.{Phrase, Nothing}
 use Rattle.parser.proofs.Phrases.{parse-took}
 
 not-closing : (w : ℕ) (e : Expression) (r : List Token) → (w ≡ 41 → ⊥) → enclosed e (token w ∷ r) ≡ nothing
-unfolding token enclosed
-not-closing w e r n = pick (λ (t : Token). enclosed e (t ∷ r) ≡ nothing) (eqb w 94) refl (pick (λ (t : Token). enclosed e (t ∷ r) ≡ nothing) (eqb w 40) refl (pick (λ (t : Token). enclosed e (t ∷ r) ≡ nothing) (eqb w 92) refl (rw (ne-eqb w 41 n) (pick (λ (t : Token). enclosed e (t ∷ r) ≡ nothing) (eqb w 46) refl (pick (λ (t : Token). enclosed e (t ∷ r) ≡ nothing) (eqb w 33) refl (pick (λ (t : Token). enclosed e (t ∷ r) ≡ nothing) (eqb w 38) refl (pick (λ (t : Token). enclosed e (t ∷ r) ≡ nothing) (eqb w 124) refl (pick (λ (t : Token). enclosed e (t ∷ r) ≡ nothing) (eqb w 62) refl (refl)))))))))
+unfolding enclosed
+not-closing w e r n =
+    by-token (λ (t : Token). enclosed e (t ∷ r) ≡ nothing) w (λ e. refl) (λ e. refl) (λ e. refl) (λ e. absurd (n e)) (λ e. refl) (λ e. refl) (λ e. refl) (λ e. refl) (λ e. refl) refl
 
 not-stop : (w : ℕ) (f : List Token → Read) (r : List Token) → (w ≡ 46 → ⊥) → body f (token w ∷ r) ≡ nothing
-unfolding token body
-not-stop w f r n = pick (λ (t : Token). body f (t ∷ r) ≡ nothing) (eqb w 94) refl (pick (λ (t : Token). body f (t ∷ r) ≡ nothing) (eqb w 40) refl (pick (λ (t : Token). body f (t ∷ r) ≡ nothing) (eqb w 92) refl (pick (λ (t : Token). body f (t ∷ r) ≡ nothing) (eqb w 41) refl (rw (ne-eqb w 46 n) (pick (λ (t : Token). body f (t ∷ r) ≡ nothing) (eqb w 33) refl (pick (λ (t : Token). body f (t ∷ r) ≡ nothing) (eqb w 38) refl (pick (λ (t : Token). body f (t ∷ r) ≡ nothing) (eqb w 124) refl (pick (λ (t : Token). body f (t ∷ r) ≡ nothing) (eqb w 62) refl (refl)))))))))
+unfolding body
+not-stop w f r n =
+    by-token (λ (t : Token). body f (t ∷ r) ≡ nothing) w (λ e. refl) (λ e. refl) (λ e. refl) (λ e. refl) (λ e. absurd (n e)) (λ e. refl) (λ e. refl) (λ e. refl) (λ e. refl) refl
 
 lone : (f : ℕ → List Token → Read) (t : Token) → binder f (t ∷ []) ≡ nothing
 unfolding binder body
@@ -64,7 +66,7 @@ module _ (ws : List ℕ) (at d : ℕ) (Γ : List ℕ) where
   module _ (h : at < length ws) where
     opens : getD ws at 0 ≡ 40 → operand d Γ (tokens (drop at ws)) ≡ inside (λ i. parse i Γ empty) d (tokens (drop (at + 1) ws))
     unfolding operand operandBy
-    opens e = ap (operand d Γ) (is-opening ws at h e)
+    opens e = ap (operand d Γ) (sign-at is-opening ws at h e)
 
     pub too-deep : getD ws at 0 ≡ 40 → d ≡ 0 → operand d Γ (tokens (drop at ws)) ≡ nothing
     unfolding inside
@@ -92,12 +94,12 @@ module _ (ws : List ℕ) (at d : ℕ) (Γ : List ℕ) where
 
         pub group-closed : next < length ws → getD ws next 0 ≡ 41 → operand d Γ (tokens (drop at ws)) ≡ read x (tokens (drop (next + 1) ws))
         unfolding enclosed
-        group-closed l c = closes ∙ ap (enclosed x) (is-closing ws next l c)
+        group-closed l c = closes ∙ ap (enclosed x) (sign-at is-closing ws next l c)
 
     module _ (e : getD ws at 0 ≡ 92) where
       binds : operand d Γ (tokens (drop at ws)) ≡ binder (λ x. parse d (x ∷ Γ) empty) (tokens (drop (at + 1) ws))
       unfolding operand operandBy
-      binds = ap (operand d Γ) (is-backslash ws at h e)
+      binds = ap (operand d Γ) (sign-at is-backslash ws at h e)
 
       pub binder-cut : length ws - at < 3 → operand d Γ (tokens (drop at ws)) ≡ nothing
       binder-cut l = binds ∙ lone-nothing (λ x. parse d (x ∷ Γ) empty) (tokens (drop (at + 1) ws)) (omega (arith, tokens-length (drop (at + 1) ws), length-drop (at + 1) ws))
@@ -143,7 +145,7 @@ module _ (ws : List ℕ) (at : ℕ) where
       let a : at < length ws = omega (arith, i .0) in
       let b : at + 1 < length ws = omega (arith, i .0) in
       let c : at + 2 < length ws = omega (arith, i .0) in
-      rw (is-backslash ws at a (i .1), tokens-at ws (at + 1) b, i .2, j, is-stop ws (at + 2) c (i .3), k)
+      rw (sign-at is-backslash ws at a (i .1), tokens-at ws (at + 1) b, i .2, j, sign-at is-stop ws (at + 2) c (i .3), k)
 
 -- one name more
 name-more : (ns : List ℕ) (k x : ℕ) → 0 < k → k ≤ length ns → drop (k - 1) (set ns (k - 1) x) ≡ x ∷ drop k ns
@@ -166,7 +168,7 @@ module _ (ws : List ℕ) (at : ℕ) (names : List ℕ) (k : ℕ) (q : RowAsks ws
   row-none =
       let i : at + 3 * 0 ≡ at = omega arith in
       let j : k - 0 ≡ k = omega arith in
-      let e = is-backslash ws at (q .before) (q .opens) in
+      let e = sign-at is-backslash ws at (q .before) (q .opens) in
       record {
         within = omega (arith, q .before);
         fits = omega arith;

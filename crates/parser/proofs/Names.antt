@@ -10,57 +10,38 @@ use lib.ListN.{length, getD, drop, drop-of-length-le}
 use lib.Seq.{drop-cons}
 use lib.Dec.{eqb}
 use borrow.Author.Tests.{eq-eqb, ne-eqb, eqb-true, eqb-false, not-true, not-false}
-use Rattle.grammar.specs.Tokens.{name}
+use Rattle.grammar.specs.Tokens.{Token, name, Sign, is-caret, is-opening, is-backslash, is-closing, is-stop, is-bang, is-ampersand, is-bar, is-arrow}
 use Rattle.grammar.specs.Reader.{up, lookup, binder, operandBy, operand}
 use Rattle.grammar.specs.Words.{token}
+use Rattle.grammar.proofs.Places.{by-token}
 use Rattle.parser.specs.Code.{placeOf, IsName}
 use Rattle.parser.specs.declared.Place.the-variants.{At, Nowhere}
 
 token-name : (w : ℕ) → (w ≡ 94 → ⊥) → (w ≡ 40 → ⊥) → (w ≡ 92 → ⊥) → (w ≡ 41 → ⊥) → (w ≡ 46 → ⊥) → (w ≡ 33 → ⊥) → (w ≡ 38 → ⊥) → (w ≡ 124 → ⊥) → (w ≡ 62 → ⊥) → token w ≡ name w
-unfolding token
-token-name w n94 n40 n92 n41 n46 n33 n38 n124 n62 = rw (ne-eqb w 94 n94, ne-eqb w 40 n40, ne-eqb w 92 n92, ne-eqb w 41 n41, ne-eqb w 46 n46, ne-eqb w 33 n33, ne-eqb w 38 n38, ne-eqb w 124 n124, ne-eqb w 62 n62)
+token-name w c o b k s n a r i =
+    by-token (λ (t : Token). t ≡ name w) w (λ e. absurd (c e)) (λ e. absurd (o e)) (λ e. absurd (b e)) (λ e. absurd (k e)) (λ e. absurd (s e)) (λ e. absurd (n e)) (λ e. absurd (a e)) (λ e. absurd (r e)) (λ e. absurd (i e)) refl
 
-pub no-name-caret : (w : ℕ) → w ≡ 94 → IsName w false
+sign-no-name : {c : ℕ} {t : Token} → Sign c t → IsName c false
 unfolding token binder operand operandBy
-no-name-caret w e = subst (λ (v : ℕ). IsName v false) (sym e) (λ r. (λ f. refl, λ d Γ a b e. absurd (a refl)))
+sign-no-name is-caret = λ r. (λ f. refl, λ d Γ a b e. absurd (a refl))
+sign-no-name is-opening = λ r. (λ f. refl, λ d Γ a b e. absurd (b refl))
+sign-no-name is-backslash = λ r. (λ f. refl, λ d Γ a b e. absurd (e refl))
+sign-no-name is-closing = λ r. (λ f. refl, λ d Γ a b e. refl)
+sign-no-name is-stop = λ r. (λ f. refl, λ d Γ a b e. refl)
+sign-no-name is-bang = λ r. (λ f. refl, λ d Γ a b e. refl)
+sign-no-name is-ampersand = λ r. (λ f. refl, λ d Γ a b e. refl)
+sign-no-name is-bar = λ r. (λ f. refl, λ d Γ a b e. refl)
+sign-no-name is-arrow = λ r. (λ f. refl, λ d Γ a b e. refl)
 
-pub no-name-opening : (w : ℕ) → w ≡ 40 → IsName w false
-unfolding token binder operand operandBy
-no-name-opening w e = subst (λ (v : ℕ). IsName v false) (sym e) (λ r. (λ f. refl, λ d Γ a b e. absurd (b refl)))
-
-pub no-name-backslash : (w : ℕ) → w ≡ 92 → IsName w false
-unfolding token binder operand operandBy
-no-name-backslash w e = subst (λ (v : ℕ). IsName v false) (sym e) (λ r. (λ f. refl, λ d Γ a b e. absurd (e refl)))
-
-pub no-name-closing : (w : ℕ) → w ≡ 41 → IsName w false
-unfolding token binder operand operandBy
-no-name-closing w e = subst (λ (v : ℕ). IsName v false) (sym e) (λ r. (λ f. refl, λ d Γ a b e. refl))
-
-pub no-name-stop : (w : ℕ) → w ≡ 46 → IsName w false
-unfolding token binder operand operandBy
-no-name-stop w e = subst (λ (v : ℕ). IsName v false) (sym e) (λ r. (λ f. refl, λ d Γ a b e. refl))
-
-pub no-name-bang : (w : ℕ) → w ≡ 33 → IsName w false
-unfolding token binder operand operandBy
-no-name-bang w e = subst (λ (v : ℕ). IsName v false) (sym e) (λ r. (λ f. refl, λ d Γ a b e. refl))
-
-pub no-name-ampersand : (w : ℕ) → w ≡ 38 → IsName w false
-unfolding token binder operand operandBy
-no-name-ampersand w e = subst (λ (v : ℕ). IsName v false) (sym e) (λ r. (λ f. refl, λ d Γ a b e. refl))
-
-pub no-name-bar : (w : ℕ) → w ≡ 124 → IsName w false
-unfolding token binder operand operandBy
-no-name-bar w e = subst (λ (v : ℕ). IsName v false) (sym e) (λ r. (λ f. refl, λ d Γ a b e. refl))
-
-no-name-arrow : (w : ℕ) → w ≡ 62 → IsName w false
-unfolding token binder operand operandBy
-no-name-arrow w e = subst (λ (v : ℕ). IsName v false) (sym e) (λ r. (λ f. refl, λ d Γ a b e. refl))
+-- a word that is a sign's is no name
+pub no-name : (w : ℕ) {c : ℕ} {t : Token} → Sign c t → w ≡ c → IsName w false
+no-name w n e = subst (λ (v : ℕ). IsName v false) (sym e) (sign-no-name n)
 
 -- the last of the signs, or a name
 pub name-last : (w : ℕ) → (w ≡ 94 → ⊥) → (w ≡ 40 → ⊥) → (w ≡ 92 → ⊥) → (w ≡ 41 → ⊥) → (w ≡ 46 → ⊥) → (w ≡ 33 → ⊥) → (w ≡ 38 → ⊥) → (w ≡ 124 → ⊥)
     → (z : Bool) → not (eqb w 62) ≡ z → IsName w z
 name-last w n94 n40 n92 n41 n46 n33 n38 n124 true e = token-name w n94 n40 n92 n41 n46 n33 n38 n124 (eqb-false w 62 (not-true _ e))
-name-last w n94 n40 n92 n41 n46 n33 n38 n124 false e = no-name-arrow w (eqb-true w 62 (not-false _ e))
+name-last w n94 n40 n92 n41 n46 n33 n38 n124 false e = no-name w is-arrow (eqb-true w 62 (not-false _ e))
 
 -- so many names passed
 unfoldable pub upBy : ℕ → Option ℕ → Option ℕ

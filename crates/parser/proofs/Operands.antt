@@ -9,11 +9,12 @@ use lib.ListN.{length, getD, drop, set, length-drop}
 use lib.Dec.{eqb}
 use borrow.Author.Tests.{not-true, not-false}
 use Rattle.grammar.specs.Expression.{leaf, var}
-use Rattle.grammar.specs.Tokens.{Token}
+use Rattle.grammar.specs.Tokens.{Token, is-caret}
 use Rattle.grammar.specs.Reader.{up, lookup, variable, operandBy, operand}
 use Rattle.grammar.specs.Words.{tokens}
 use Rattle.grammar.specs.Postfix.{postfix}
-use Rattle.grammar.proofs.Places.{tokens-at, is-caret}
+use Rattle.grammar.proofs.Places.{tokens-at, sign-at}
+use Rattle.table.proofs.Words.{zero-one}
 use Rattle.operators.proofs.Joints.{wrote-one}
 use Rattle.parser.specs.Code.{placeOf, IsName, Asks, Tells}
 use Rattle.parser.specs.declared.Parsed.the-variants.{Phrase, Nothing}
@@ -23,13 +24,13 @@ use Rattle.parser.specs.declared.Place.the-variants.{At, Nowhere}
 -- where a name was found
 pub found-at : (o : Option ℕ) (r : Place) (i : ℕ) → r ≡ placeOf o → r ≡ At i → o ≡ some i
 unfolding placeOf
-found-at none r i q e = let z : _≡_ {A = ℕ} 0 1 = cc in absurd (omega arith)
+found-at none r i q e = zero-one (cc)
 found-at (some j) r i q e = cc
 
 pub found-none : (o : Option ℕ) (r : Place) → r ≡ placeOf o → r ≡ Nowhere → o ≡ none
 unfolding placeOf
 found-none none r q e = refl
-found-none (some j) r q e = let z : _≡_ {A = ℕ} 0 1 = cc in absurd (omega arith)
+found-none (some j) r q e = zero-one (cc)
 
 abbrev Below : ℕ → Option ℕ → Type 0
 Below n none = Unit {0}
@@ -56,7 +57,7 @@ lookup-less ns k x i e = let h : Below (length (drop k ns)) (some i) = rw e at (
 module _ (ws : List ℕ) (at : ℕ) (names : List ℕ) (k : ℕ) (post : List ℕ) (w : ℕ) (q : Asks ws at names k post w) (h : at < length ws) where
   pub atom-leaf : (d : ℕ) → getD ws at 0 ≡ 94 → Tells (operand d (drop k names) (tokens (drop at ws))) ws w post (set post w 6) (Phrase (at + 1) (w + 1))
   unfolding Tells operand operandBy postfix
-  atom-leaf d e = record { e = leaf; leads = ap (operand d (drop k names)) (is-caret ws at h e); within = omega arith; wrote = wrote-one post w 6 (omega (arith, q .room, q .space)) }
+  atom-leaf d e = record { e = leaf; leads = ap (operand d (drop k names)) (sign-at is-caret ws at h e); within = omega arith; wrote = wrote-one post w 6 (omega (arith, q .room, q .space)) }
 
   pub atom-other : (d : ℕ) (b : Bool) → IsName (getD ws at 0) b → not b ≡ true → (getD ws at 0 ≡ 94 → ⊥) → (getD ws at 0 ≡ 40 → ⊥) → (getD ws at 0 ≡ 92 → ⊥)
       → Tells (operand d (drop k names) (tokens (drop at ws))) ws w post post Nothing

@@ -11,8 +11,9 @@ use lib.Seq.{drop-cons, length-take-le}
 use lib.Dec.{leb}
 use borrow.Author.Tests.{le-leb, lt-leb, leb-true, leb-false, not-true, not-false}
 use Rattle.calculus.specs.Term.{Term, ClosedUnder, nesting}
-use Rattle.calculus.specs.Bytes.{bytes, rule, IsRule}
-use Rattle.calculus.proofs.Rule.{rule-exact, bytes-unique}
+use Rattle.calculus.specs.Bytes.{bytes, rule}
+use Rattle.calculus.proofs.Rule.{rule-exact}
+use Rattle.table.proofs.Words.{zero-one}
 use Rattle.table.specs.Outcome.{Outcome, wholeOut}
 use Rattle.table.specs.declared.Refusal.the-variants.{Rule, Out, RuleText}
 use Rattle.grammar.specs.Expression.{Expression, leaf, var, app, abs, not, and, or, implies}
@@ -24,6 +25,7 @@ use Rattle.grammar.specs.Text.{allRead, ofWords, readText}
 use Rattle.grammar.specs.Outcome.{intoOut, ofBytes, ofReading, ruleText}
 use Rattle.grammar.specs.declared.Encoded.{Encoded}
 use Rattle.grammar.specs.declared.Encoded.the-variants.{Bytes, Refused}
+use Rattle.grammar.proofs.Exact.{bytes-no-rule}
 use Rattle.grammar.proofs.Sound.{sound}
 use Rattle.grammar.proofs.Text.{closed}
 use Rattle.parser.specs.Code.{Asks, Phrased}
@@ -67,25 +69,18 @@ is-abs (implies a b) h = absurd (omega arith)
 
 not-abs : (e : Expression) (b : Term) → termOf e ≡ Term.abs b → symbol e ≡ 4
 unfolding symbol termOf
-not-abs leaf b h = let z : _≡_ {A = ℕ} 0 1 = cc in absurd (omega arith)
-not-abs (var i) b h = let z : _≡_ {A = ℕ} 0 1 = cc in absurd (omega arith)
-not-abs (app f a) b h = let z : _≡_ {A = ℕ} 0 1 = cc in absurd (omega arith)
+not-abs leaf b h = zero-one (cc)
+not-abs (var i) b h = zero-one (cc)
+not-abs (app f a) b h = zero-one (cc)
 not-abs (abs e) b h = refl
-not-abs (not a) b h = let z : _≡_ {A = ℕ} 0 1 = cc in absurd (omega arith)
-not-abs (and a c) b h = let z : _≡_ {A = ℕ} 0 1 = cc in absurd (omega arith)
-not-abs (or a c) b h = let z : _≡_ {A = ℕ} 0 1 = cc in absurd (omega arith)
-not-abs (implies a c) b h = let z : _≡_ {A = ℕ} 0 1 = cc in absurd (omega arith)
+not-abs (not a) b h = zero-one (cc)
+not-abs (and a c) b h = zero-one (cc)
+not-abs (or a c) b h = zero-one (cc)
+not-abs (implies a c) b h = zero-one (cc)
 
 -- what is given for a term that is read
 abbrev Given : Expression → List ℕ → Encoded → List ℕ → Type 0
 Given e out r m = wholeOut r [] [] m ≡ ofBytes (bytes (termOf e)) (rule (bytes (termOf e))) out
-
-none-of : (l : List ℕ) → ((t : Term) → IsRule l t → ⊥) → rule l ≡ none
-none-of l n = go (rule l) refl
-  where
-    go : (o : Option Term) → rule l ≡ o → rule l ≡ none
-    go none q = q
-    go (some t) q = absurd (n t (rule-exact l t .0 q))
 
 module _ (e : Expression) (post : List ℕ) (end : ℕ) (q : Stands e post end) where
   pub ends-symbol : getD post (end - 1) 0 ≡ symbol e
@@ -101,22 +96,19 @@ module _ (e : Expression) (post : List ℕ) (end : ℕ) (q : Stands e post end) 
     refuses r = rw r
 
     pub no-abs : (getD post (end - 1) 0 ≡ 4 → ⊥) → Given e out (Refused Rule) out
-    no-abs n = refuses (none-of (bytes (termOf e)) (λ t r.
-        let z : t ≡ termOf e = bytes-unique t (termOf e) (r .whole) in
-        n (ends-symbol ∙ not-abs e (r .body) (sym z ∙ r .begins))))
+    no-abs n = refuses (bytes-no-rule e (λ r. n (ends-symbol ∙ not-abs e (r .body) (r .begins))))
 
   module _ (n : ℕ) (s : n ≡ total (take end post)) where
     counted : n ≡ length (bytes (termOf e))
     counted = s ∙ ap total (q .stands) ∙ total-postfix e
 
     pub too-long : (out : List ℕ) → 4096 < n → Given e out (Refused Rule) out
-    too-long out h = refuses out (none-of (bytes (termOf e)) (λ t r. omega (arith, r .short, counted)))
+    too-long out h = refuses out (bytes-no-rule e (λ r. omega (arith, r .short, counted)))
 
     pub too-deep : (out : List ℕ) (z : Bool) → z ≡ leb (nesting (termOf e)) 16 → bool.not z ≡ true → Given e out (Refused Rule) out
-    too-deep out z d n = refuses out (none-of (bytes (termOf e)) (λ t r.
-        let y : t ≡ termOf e = bytes-unique t (termOf e) (r .whole) in
+    too-deep out z d n =
         let k = leb-false (nesting (termOf e)) 16 (sym d ∙ not-true z n) in
-        omega (arith, r .shallow, k, ap nesting y)))
+        refuses out (bytes-no-rule e (λ r. omega (arith, r .shallow, k)))
 
     -- 10, or the bytes: the term is a rule
     module _ (a : getD post (end - 1) 0 ≡ 4) (l : n ≤ 4096) (y : Bool) (d : y ≡ leb (nesting (termOf e)) 16) (o : bool.not y ≡ false) where

@@ -1,5 +1,6 @@
 -- `operators::joint_at` meets its contract: each token. Assumes nothing.
-use Rattle.grammar.proofs.Places.{is-ampersand, is-bar, is-arrow}
+use Rattle.grammar.specs.Tokens.{is-ampersand, is-bar, is-arrow}
+use Rattle.grammar.proofs.Places.{sign-at}
 use Rattle.operators.proofs.Joints.{joint-none, joint-closing, joint-stop, joint-bang, joint-operand}
 use borrow.Author.Needs.{needs}
 use Rattle.operators.proofs.joint_at.Statement.{statement}
@@ -18,13 +19,13 @@ returns-2 : tie.Need-returns-2
 returns-2 c = joint-closing _ _ (c .before .before .if1 .left) (c .if2 .taken)
 
 returns-3 : tie.Need-returns-3
-returns-3 c = (is-ampersand _ _ (c .before .before .before .if1 .left) (c .if3 .taken), c .before .before .before .if1 .left)
+returns-3 c = (sign-at is-ampersand _ _ (c .before .before .before .if1 .left) (c .if3 .taken), c .before .before .before .if1 .left)
 
 returns-4 : tie.Need-returns-4
-returns-4 c = (is-bar _ _ (c .before .before .before .before .if1 .left) (c .if4 .taken), c .before .before .before .before .if1 .left)
+returns-4 c = (sign-at is-bar _ _ (c .before .before .before .before .if1 .left) (c .if4 .taken), c .before .before .before .before .if1 .left)
 
 returns-5 : tie.Need-returns-5
-returns-5 c = (is-arrow _ _ (c .before .before .before .before .before .if1 .left) (c .if5 .taken), c .before .before .before .before .before .if1 .left)
+returns-5 c = (sign-at is-arrow _ _ (c .before .before .before .before .before .if1 .left) (c .if5 .taken), c .before .before .before .before .before .if1 .left)
 
 returns-6 : tie.Need-returns-6
 returns-6 c = joint-stop _ _ (c .before .before .before .before .before .before .if1 .left) (c .if6 .taken)
