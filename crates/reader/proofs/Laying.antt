@@ -6,7 +6,7 @@ use mathlib.Core.List.{List, [], _∷_}
 use mathlib.Core.Option.{Option, none, some}
 use native.Mathlib.Omega.{arith}
 use lib.ListN.{length, getD, set, drop, length-append, length-drop}
-use lib.Seq.{getD-set-same, getD-set-other, drop-length}
+use lib.Seq.{getD-set-same, getD-set-other, drop-cons, drop-length}
 use lib.Dec.{eqb}
 use borrow.Author.Tests.{eqb-true, eqb-false, eq-eqb, ne-eqb}
 use Rattle.calculus.specs.Tree.{Tree, leaf, stem, fork, size}
@@ -16,8 +16,7 @@ use Rattle.ternary.specs.Text.{text, takeLeaf, takeStem, takeFork, takeDigit, p
 use Rattle.ternary.specs.Text.{texts}
 use Rattle.reader.specs.Code.{layAll, nodesOf, Holds, LaidBy, TakesDigit, LaysText, laysAs}
 use Rattle.table.proofs.Words.{zero-one}
-use Rattle.ternary.proofs.OneText.{pending-texts, length-text}
-use Rattle.reader.proofs.Scanning.{drop-more, pending-none}
+use Rattle.ternary.proofs.OneText.{pending-texts, whole-pending, length-text}
 
 -- ---- what a digit that is taken finds and leaves
 
@@ -174,6 +173,17 @@ laid-as l a b c d = rw (a, b, c, d) l
 
 -- ---- a whole text
 
+-- the digits from index k on, and those after it
+drop-more : (l : List ℕ) (i : ℕ) → 0 < i → i ≤ length l → drop (i - 1) l ≡ getD l (i - 1) 0 ∷ drop i l
+drop-more l i h k = let q : suc (i - 1) ≡ i = omega arith in drop-cons l (i - 1) 0 (omega arith) ∙ rw q
+
+-- what is no tree from some digit on is none
+pending-none : (l : List ℕ) (i : ℕ) → i ≤ length l → pending (drop i l) ≡ none → pending l ≡ none
+unfolding pending takeDigit
+pending-none l zero h e = e
+pending-none [] (suc i) h e = e
+pending-none (c ∷ l) (suc i) h e = rw (pending-none l i (omega arith) e)
+
 -- every end of a whole text leaves trees pending, and no more than the most
 pub pending-drop : (l : List ℕ) (i : ℕ) {ts : List Tree} → i ≤ length l → pending l ≡ some ts → (us : List Tree) × (pending (drop i l) ≡ some us)
 pending-drop l i {ts} h e = go (pending (drop i l)) refl
@@ -192,17 +202,6 @@ pending-most [] zero e = none-pending e
 pending-most [] (suc i) e = none-pending e
 pending-most (c ∷ l) zero {ts} e = let k : manyPending (pending (c ∷ l)) ≡ length ts = ap manyPending e in omega arith
 pending-most (c ∷ l) (suc i) e = omega (arith, pending-most l i e)
-
--- the one tree of a whole text
-pub whole-pending : (l : List ℕ) {t : Tree} → treeOf l ≡ some t → pending l ≡ some (t ∷ [])
-unfolding treeOf single
-whole-pending l {t} = go (pending l)
-  where
-    go : (o : Option (List Tree)) → single o ≡ some t → o ≡ some (t ∷ [])
-    go none e = zero-one (cc)
-    go (some []) e = zero-one (cc)
-    go (some (x ∷ [])) e = cc
-    go (some (x ∷ (y ∷ xs))) e = zero-one (cc)
 
 -- each digit makes one node
 layAll-used : (t : Table) (ts : List Tree) → layAll t ts .used ≡ t .used + length (texts ts)

@@ -1,4 +1,3 @@
 -- The laws that the proofs of Read's functions cite.
-pub mod Scanning
 pub mod Laying
 pub mod ReadWays

@@ -19,8 +19,9 @@ use Rattle.checks.specs.declared.Checked.the-variants as checked
 use Rattle.checks.specs.Code.{checkedWith, roomFor}
 use Rattle.checks.proofs.Room.{Enough, no-room, has-room}
 use Rattle.ternary.specs.Read.{readable, isSome, readTree}
-use Rattle.reader.specs.declared.Scanned.the-variants.{Whole, Broken}
-use Rattle.reader.specs.Code.{ScanSays, LaysText, laysAs}
+use Rattle.whole_text.specs.declared.Scanned.the-variants.{Whole, Broken}
+use Rattle.whole_text.specs.Code.{ScanSays}
+use Rattle.reader.specs.Code.{LaysText, laysAs}
 
 module _ (w : List ℕ) (u : ℕ) (s l : List ℕ) where
   pub too-long : 65535 < length l → whole (Refused Text) w s ≡ readTree w u s l (readable l)

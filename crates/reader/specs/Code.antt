@@ -2,19 +2,12 @@
 use Prim.Native.Nat.{ℕ, _+_, _*_, _≤_, _<_}
 use mathlib.Core.Path.{_≡_}
 use mathlib.Core.List.{List, [], _∷_}
-use mathlib.Core.Option.{none, some}
+use mathlib.Core.Option.{some}
 use lib.ListN.{length, getD}
 use Rattle.calculus.specs.Tree.{Tree}
 use Rattle.table.specs.Nodes.{Table, capacity, lay}
 use Rattle.table.specs.Outcome.{frames}
 use Rattle.ternary.specs.Text.{takeDigit, treeOf, mostPending}
-use Rattle.reader.specs.declared.Scanned.{Scanned}
-use Rattle.reader.specs.declared.Scanned.the-variants.{Whole, Broken}
-
--- what a scan says of a text
-unfoldable pub ScanSays : List ℕ → Scanned → Type 0
-ScanSays l (Whole n) = (t : Tree) × (treeOf l ≡ some t) × (n ≡ mostPending l)
-ScanSays l Broken = treeOf l ≡ none
 
 -- trees laid out one after another, the last of the list first, and their nodes
 unfoldable pub layAll : Table → List Tree → Table

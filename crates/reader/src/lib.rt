@@ -1,5 +1,5 @@
-// Ternary text read into a table: whether bytes are one whole tree's text, its nodes laid out digit by digit, and Read. The definitions and the laws
-// that callers cite are in the crate `ternary`; specs/ says what the code's own values mean in their terms.
+// Ternary text read into a table: whether Read takes a text, its nodes laid out digit by digit, and Read. The definitions and the laws that callers
+// cite are in the crate `ternary`, the test for a whole text in `whole_text`; specs/ says what the code's own values mean in their terms.
 ghost use mathlib.Core.Path.{_≡_};
 ghost use mathlib.Core.List.{List};
 ghost use mathlib.Core.Option.{some};
@@ -8,66 +8,14 @@ ghost use lib.ListN.{length, set};
 ghost use Rattle.calculus.specs.Tree.{Tree};
 ghost use Rattle.table.specs.Nodes.{Table, Sound};
 ghost use Rattle.table.specs.Outcome.{whole};
-ghost use Rattle.ternary.specs.Text.{manyPending, takeDigit};
+ghost use Rattle.ternary.specs.Text.{takeDigit};
 ghost use Rattle.ternary.specs.Read.{readable, isSome, read, readTree};
-ghost use Rattle.reader.specs.Code.{ScanSays, LaidBy, TakesDigit, LaysText, laysAs};
+ghost use Rattle.reader.specs.Code.{LaidBy, TakesDigit, LaysText, laysAs};
 use checks::Checked;
 use nodes::NewNode;
 use table::Made;
 use table::Refusal;
-
-// What a scan of a text finds: one whole tree, with the most trees pending, or none.
-enum Scanned {
-    Whole(usize),
-    Broken,
-}
-
-// How many trees are pending after the digit c where n were pending before it; 0 where it lacks a branch or is no digit.
-fn pending_after(c: u8, n: usize) -> usize
-    requires { ⌜ n < 4294967296 ⌝ }
-    ensures { λ r. ⌜ ((ts : List Tree) → length ts ≡ n → r ≡ manyPending (takeDigit c (some ts))) ⌝ }
-{
-    if c == 48 {
-        return n + 1;
-    }
-    if c == 49 {
-        return n;
-    }
-    if c == 50 {
-        if n == 0 {
-            return 0;
-        }
-        return n - 1;
-    }
-    0
-}
-
-// Takes the digits last to first and counts the trees pending.
-fn scan(text: &[u8]) -> Scanned
-    requires { ⌜ length (now text) ≤ 65535 ⌝ }
-    ensures { λ r. ⌜ ScanSays (now (text .entry)) r ⌝ }
-{
-    let mut i = text.len();
-    let mut pending = 0;
-    let mut most = 0;
-    while 0 < i {
-        let k = i - 1;
-        let n = pending_after(text[k], pending);
-        if n == 0 {
-            return Scanned::Broken;
-        }
-        if most < n {
-            most = n;
-        }
-        pending = n;
-        i = k;
-    }
-    if pending == 1 {
-        Scanned::Whole(most)
-    } else {
-        Scanned::Broken
-    }
-}
+use whole_text::Scanned;
 
 // Whether a text is one that Read takes.
 pub fn is_text(text: &[u8]) -> bool
@@ -77,7 +25,7 @@ pub fn is_text(text: &[u8]) -> bool
     if 65535 < n {
         return false;
     }
-    let Scanned::Whole(_) = scan(text) else {
+    let Scanned::Whole(_) = whole_text::scan(text) else {
         return false;
     };
     true
@@ -147,7 +95,7 @@ pub fn read_text(table: &mut [u32], used: usize, stack: &mut [u32], text: &[u8])
     if 65535 < text.len() {
         return Made::Refused(Refusal::Text);
     }
-    let Scanned::Whole(most) = scan(text) else {
+    let Scanned::Whole(most) = whole_text::scan(text) else {
         return Made::Refused(Refusal::Text);
     };
     let room = checks::check_room(table, used, stack, text.len(), most);

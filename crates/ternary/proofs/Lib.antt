@@ -1,5 +1,6 @@
 -- The theorems of text, Read and Write; other crates cite them.
 pub mod OneText
+pub mod Wanted
 pub mod Reading
 pub mod EachDigit
 pub mod Writes

@@ -67,16 +67,21 @@ pending-texts (c ∷ l) {ts} e = go (pending l) refl e (λ us. pending-texts l {
     go none p e r = zero-one (cc)
     go (some us) p e r = ap (λ (k : List ℕ). c ∷ k) (r us p) ∙ took c us e
 
+-- the one tree of a whole text
+pub whole-pending : (l : List ℕ) {t : Tree} → treeOf l ≡ some t → pending l ≡ some (t ∷ [])
+unfolding treeOf single
+whole-pending l {t} = go (pending l)
+  where
+    go : (o : Option (List Tree)) → single o ≡ some t → o ≡ some (t ∷ [])
+    go none e = zero-one (cc)
+    go (some []) e = zero-one (cc)
+    go (some (x ∷ [])) e = cc
+    go (some (x ∷ (y ∷ xs))) e = zero-one (cc)
+
 -- "text not one whole tree" is refused: a text that is whole is the text of the tree that is read.
 pub whole-text : (l : List ℕ) (t : Tree) → treeOf l ≡ some t → l ≡ text t
-unfolding treeOf single texts
-whole-text l t = go (pending l) refl
-  where
-    go : (o : Option (List Tree)) → pending l ≡ o → single o ≡ some t → l ≡ text t
-    go none p e = zero-one (cc)
-    go (some []) p e = zero-one (cc)
-    go (some (u ∷ [])) p e = pending-texts l p ∙ append-nil (text u) ∙ cc
-    go (some (u ∷ (v ∷ us))) p e = zero-one (cc)
+unfolding texts
+whole-text l t e = pending-texts l (whole-pending l e) ∙ append-nil (text t)
 
 -- "Its text is one ASCII digit a node": as many digits as the tree has nodes.
 pub length-text : (t : Tree) → length (text t) ≡ size t

@@ -1,11 +1,15 @@
--- Worked examples of the definitions: which refusal comes first at a digit, which frames are held at it, and when trees are counted. Assumes nothing.
+-- Worked examples of the definitions: which refusal comes first at a digit, which frames are held at it, when trees are counted, and how many are wanted.
+-- Assumes nothing.
 use Prim.Native.Nat.{ℕ}
 use mathlib.Core.Path.{_≡_, refl}
 use mathlib.Core.List.{List, [], _∷_, map}
+use mathlib.Core.Option.{none, some}
+use lib.ListN.{take}
 use Rattle.calculus.specs.Tree.{Tree, leaf, stem, fork, size}
 use Rattle.table.specs.Refusal.{number, refusedNumbers}
 use Rattle.table.specs.declared.Refusal.the-variants.{Frames, Out}
 use Rattle.ternary.specs.Text.{text, takeLeaf, takeStem, takeFork, takeDigit, pending, manyPending, mostPending}
+use Rattle.ternary.specs.Wanted.{wantedAfter, wantedFrom, wanted}
 use Rattle.ternary.specs.Write.{Room, left, lacks, next, spend, digits, writtenNumbers}
 use Rattle.ternary.specs.Held.{held}
 use Rattle.ternary.specs.declared.Written.the-variants.{Digits, Refused}
@@ -37,3 +41,9 @@ pub most : map (λ (t : Tree). mostPending (text t)) (leaf ∷ stem leaf ∷ for
     ≡ 1 ∷ 1 ∷ 2 ∷ 2 ∷ 3 ∷ []
 unfolding text mostPending pending takeDigit takeLeaf takeStem takeFork manyPending
 most = refl
+
+-- the trees wanted after each beginning of 210200, and after one digit more; after a byte that is no digit; the empty beginning wants one
+pub wants : (map (λ (n : ℕ). wanted (take n (50 ∷ 49 ∷ 48 ∷ 50 ∷ 48 ∷ 48 ∷ 48 ∷ []))) (0 ∷ 1 ∷ 2 ∷ 3 ∷ 4 ∷ 5 ∷ 6 ∷ 7 ∷ [])
+    ≡ some 1 ∷ some 2 ∷ some 2 ∷ some 1 ∷ some 2 ∷ some 1 ∷ some 0 ∷ none ∷ []) × (wanted (50 ∷ 51 ∷ []) ≡ none)
+unfolding wanted wantedFrom wantedAfter
+wants = (refl, refl)

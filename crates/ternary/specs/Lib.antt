@@ -1,5 +1,6 @@
 -- Text, Read and Write. Assumes nothing: these are definitions.
 pub mod Text
+pub mod Wanted
 pub mod Read
 pub mod Write
 pub mod Held

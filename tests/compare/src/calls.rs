@@ -44,9 +44,9 @@ pub const OPERATIONS: [Operation; 5] = [
 ];
 
 /// A call that was made: the model's refusal, and what it was where the engine differs.
-struct Call {
-    refusal: usize,
-    difference: Option<String>,
+pub struct Call {
+    pub refusal: usize,
+    pub difference: Option<String>,
 }
 
 /// Makes so many calls; how often each refusal was met, and how many differ.
@@ -70,7 +70,7 @@ pub fn compare(
 }
 
 /// Makes one call on two copies of a memory.
-fn both(
+pub fn both(
     memory: Memory,
     what: impl FnOnce() -> String,
     engine: impl FnOnce(&mut Memory) -> lazvorn::Numbers,

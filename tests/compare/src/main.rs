@@ -1,11 +1,13 @@
 //! Compares the engine with the second evaluator on packets, and with the model on packets, on calls
-//! of each operation and on rule texts: answers and every lent word and byte. Rule texts printed from
-//! random expressions are held to the expressions too. Prints each difference, of rule texts the first
-//! few, and how often each refusal was met. The exit status is 1 where anything differs, and where a
-//! refusal that packets or rule texts can meet was met too seldom for the run to mean something.
+//! of each operation, on texts and their beginnings and on rule texts: answers and every lent word and
+//! byte. Rule texts printed from random expressions are held to the expressions too. Prints each
+//! difference, of rule texts the first few, and how often each refusal was met. The exit status is 1
+//! where anything differs, and where a refusal that packets or rule texts can meet was met too seldom
+//! for the run to mean something.
 //!
 //! `compare [PACKETS [SEED]]`
 
+mod beginnings;
 mod calls;
 mod rule_texts;
 mod runs;
@@ -18,6 +20,9 @@ use model::Memory;
 const PACKETS: usize = 120_000;
 const CALLS: usize = 200_000;
 const EXPRESSIONS: usize = 20_000;
+
+/// How many whole texts are cut to beginnings.
+const BEGINNINGS: usize = 20_000;
 
 /// How often a packet must meet each refusal from 4 to 10.
 const SELDOM: usize = 100;
@@ -139,6 +144,12 @@ fn compare() -> bool {
         differences += more;
     }
     differences += compare_texts(&mut random, &noise);
+    let short = beginnings::short(&mut random, &noise);
+    let completed = beginnings::completed(&mut random, &noise, BEGINNINGS);
+    for (what, outcome) in [("short", short), ("completed", completed)] {
+        print(what, &outcome.counts, [4, 8, 9]);
+        differences += outcome.differences;
+    }
     println!("{differences} differences");
     differences == 0
 }

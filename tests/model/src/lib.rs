@@ -123,6 +123,30 @@ fn readable(text: &[u8]) -> Option<Rc<Tree>> {
     (end == text.len()).then_some(tree)
 }
 
+/// A text whose end may be missing, from the digit at `at` on: how many trees it lacks, one where
+/// there is no digit, and the place after what is there.
+fn lacking(text: &[u8], at: usize) -> Option<(usize, usize)> {
+    let Some(digit) = text.get(at) else {
+        return Some((1, at));
+    };
+    match digit {
+        b'0' => Some((0, at + 1)),
+        b'1' => lacking(text, at + 1),
+        b'2' => {
+            let (first, middle) = lacking(text, at + 1)?;
+            let (second, end) = lacking(text, middle)?;
+            Some((first + second, end))
+        }
+        _ => None,
+    }
+}
+
+/// How many trees are missing at the end of a text, if it is the beginning of a whole one.
+pub fn missing(text: &[u8]) -> Option<usize> {
+    let (trees, end) = lacking(text, 0)?;
+    (end == text.len()).then_some(trees)
+}
+
 /// The most trees pending while a tree's digits are taken last to first, where `before` are pending
 /// already: its second branch comes first and is pending while the first branch comes.
 fn pending(tree: &Tree, before: usize) -> usize {

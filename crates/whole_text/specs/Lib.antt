@@ -1,0 +1,2 @@
+-- What the code's own values say. Assumes nothing: these are definitions.
+pub mod Code
