@@ -1,5 +1,5 @@
 -- Laws of laying out the tree of a text digit by digit, one for each way that its code goes. Assumes nothing.
-use Prim.Native.Nat.{ℕ, zero, suc, _+_, _-_, _*_, _/_, _≤_, _<_, max}
+use Prim.Native.Nat.{ℕ, zero, suc, _+_, _-_, _*_, _≤_, _<_}
 use mathlib.Core.Path.{_≡_, refl, sym, ap, _∙_, subst}
 use mathlib.Core.Bool.{Bool, true, false, cond}
 use mathlib.Core.List.{List, [], _∷_}
@@ -9,10 +9,10 @@ use lib.ListN.{length, getD, set, drop, length-append, length-drop}
 use lib.Seq.{getD-set-same, getD-set-other, drop-cons, drop-length}
 use lib.Dec.{eqb}
 use borrow.Author.Tests.{eqb-true, eqb-false, eq-eqb, ne-eqb}
-use Rattle.calculus.specs.Tree.{Tree, leaf, stem, fork, size}
+use Rattle.calculus.specs.Tree.{Tree, leaf, stem, fork}
 use Rattle.table.specs.Nodes.{Table, Placed, make, lay}
-use Rattle.table.proofs.Making.{make-node, lay-used, lay-node}
-use Rattle.ternary.specs.Text.{text, takeLeaf, takeStem, takeFork, takeDigit, pending, single, treeOf, manyPending, mostPending}
+use Rattle.table.proofs.Making.{lay-used, lay-node}
+use Rattle.ternary.specs.Text.{text, takeLeaf, takeStem, takeFork, takeDigit, pending, manyPending, mostPending}
 use Rattle.ternary.specs.Text.{texts}
 use Rattle.reader.specs.Code.{layAll, nodesOf, Holds, LaidBy, TakesDigit, LaysText, laysAs}
 use Rattle.table.proofs.Words.{zero-one}
@@ -173,7 +173,7 @@ laid-as l a b c d = rw (a, b, c, d) l
 
 -- ---- a whole text
 
--- the digits from index k on, and those after it
+-- the digits from index i - 1 on, and those after it
 drop-more : (l : List ℕ) (i : ℕ) → 0 < i → i ≤ length l → drop (i - 1) l ≡ getD l (i - 1) 0 ∷ drop i l
 drop-more l i h k = let q : suc (i - 1) ≡ i = omega arith in drop-cons l (i - 1) 0 (omega arith) ∙ rw q
 

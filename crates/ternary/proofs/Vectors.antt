@@ -1,8 +1,8 @@
--- Worked examples of the definitions: which refusal comes first at a digit, which frames are held at it, when trees are counted, and how many are wanted.
+-- Worked examples of the definitions: which refusal comes first at a digit, which frames are held at it, when trees are counted, how many are wanted.
 -- Assumes nothing.
 use Prim.Native.Nat.{ℕ}
 use mathlib.Core.Path.{_≡_, refl}
-use mathlib.Core.List.{List, [], _∷_, map}
+use mathlib.Core.List.{[], _∷_, map}
 use mathlib.Core.Option.{none, some}
 use lib.ListN.{take}
 use Rattle.calculus.specs.Tree.{Tree, leaf, stem, fork, size}
@@ -10,7 +10,7 @@ use Rattle.table.specs.Refusal.{number, refusedNumbers}
 use Rattle.table.specs.declared.Refusal.the-variants.{Frames, Out}
 use Rattle.ternary.specs.Text.{text, takeLeaf, takeStem, takeFork, takeDigit, pending, manyPending, mostPending}
 use Rattle.ternary.specs.Wanted.{wantedAfter, wantedFrom, wanted}
-use Rattle.ternary.specs.Write.{Room, left, lacks, next, spend, digits, writtenNumbers}
+use Rattle.ternary.specs.Write.{left, lacks, next, spend, digits, writtenNumbers}
 use Rattle.ternary.specs.Held.{held}
 use Rattle.ternary.specs.declared.Written.the-variants.{Digits, Refused}
 

@@ -1,6 +1,6 @@
 -- The number of trees wanted: it is 0 exactly where a text is whole, it is the number of trees pending from there on, and it is the fewest digits
 -- that complete a beginning. Assumes nothing.
-use Prim.Native.Nat.{ℕ, zero, suc, _+_, _≤_, max}
+use Prim.Native.Nat.{ℕ, zero, suc, _+_, _≤_}
 use mathlib.Core.Path.{_≡_, refl, sym, ap, _∙_}
 use mathlib.Core.Bool.{Bool, true, false, cond}
 use mathlib.Core.List.{List, [], _∷_, _++_, append-assoc}
@@ -34,6 +34,7 @@ wanted-text leaf n l = refl
 wanted-text (stem p) n l = wanted-text p n l
 wanted-text (fork p q) n l = ap (wantedFrom (some (suc (suc n)))) (append-assoc (text p) (text q) l) ∙ wanted-text p (suc n) (text q ++ l) ∙ wanted-text q n l
 
+-- and the texts of several are as many of them
 wanted-texts : (ts : List Tree) → wantedFrom (some (length ts)) (texts ts) ≡ some 0
 unfolding texts wantedFrom
 wanted-texts [] = refl

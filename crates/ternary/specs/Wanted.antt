@@ -17,7 +17,7 @@ wantedAfter c none = none
 wantedAfter c (some zero) = none
 wantedAfter c (some (suc n)) = cond (eqb c 48) (some n) (cond (eqb c 49) (some (suc n)) (cond (eqb c 50) (some (suc (suc n))) none))
 
--- the number wanted once the digits of a text are taken, first to last
+-- the number wanted once digits are taken, first to last, where n trees are wanted before them
 unfoldable pub wantedFrom : Option ℕ → List ℕ → Option ℕ
 wantedFrom n [] = n
 wantedFrom n (c ∷ l) = wantedFrom (wantedAfter c n) l

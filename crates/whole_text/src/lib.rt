@@ -36,8 +36,8 @@ fn wanted_after(c: u8, n: usize) -> Wanted
     Wanted::Trees(n - 1 + branches)
 }
 
-// Takes the digits first to last and counts the trees still wanted. Of a whole text those wanted before a digit are those pending from there on, so that
-// the most of them is Read's.
+// Takes the digits first to last and counts the trees still wanted. Of a whole text those wanted before a digit are those pending from there on, so
+// that the most of them is Read's.
 pub fn scan(text: &[u8]) -> Scanned
     requires { ⌜ length (now text) ≤ 65535 ⌝ }
     ensures { λ r. ⌜ ScanSays (now (text .entry)) r ⌝ }

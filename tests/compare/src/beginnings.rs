@@ -1,5 +1,6 @@
-//! Read beside the model on every short text, and on beginnings of whole texts with digits after
-//! them: as many leaves as the beginning lacks trees complete it, and nothing shorter does.
+//! Read beside the model on every short text, on figure 1.1 of source 001, and on beginnings of whole
+//! texts with digits after them: as many leaves as the beginning lacks trees complete it, and nothing
+//! shorter does.
 
 use crate::calls::{both, Call};
 use crate::{Counts, Noise};
@@ -9,6 +10,20 @@ use compare::trees;
 /// The longest of the short texts, and what they are made of.
 const SHORT: u32 = 8;
 const BYTES: &[u8; 4] = b"0123";
+
+/// The digits of figure 1.1 in source 001, line by line as the copy here has them. No tree is wanted
+/// after the first 95 of the 575, so that these are a whole text and the figure is none.
+const FIGURE: [&str; 8] = [
+    "21210102120210210102121202011210102121212110200200201020112121202121010",
+    "21010212110200200201020020020020212021202121102010201021212021212120212",
+    "121212121212020021212120200212121202101021211020020020020020020112020212120",
+    "210102120202021010212021010021211020020020020102011212020021212120200212121",
+    "21202002121212020021212101021211020020020020020020111020020020020020102",
+    "1200212120021010200201021212021202010212121212121202002121212020021212",
+    "121102002002002002002011102002002010201121212110200200201020020021202110201",
+    "0021212020021200020021212020200212020100200212110200200212101021010",
+];
+const FIGURE_WHOLE: usize = 95;
 
 /// Reads a text into an empty table of so many nodes with so many frames.
 fn read(random: &mut Random, noise: &Noise, text: &[u8], nodes: usize, frames: usize) -> Call {
@@ -49,7 +64,20 @@ impl Outcome {
     }
 }
 
-/// Every text of at most 8 bytes, with seven nodes and three frames.
+/// How many trees have so many nodes: a stem has a tree of one node less, a fork two trees.
+fn trees_of(nodes: usize) -> usize {
+    match nodes {
+        0 => 0,
+        1 => 1,
+        _ => {
+            let forks = (1..nodes - 1).map(|first| trees_of(first) * trees_of(nodes - 1 - first));
+            trees_of(nodes - 1) + forks.sum::<usize>()
+        }
+    }
+}
+
+/// Every text of at most 8 bytes, with seven nodes and three frames: one text a tree, of which those
+/// of eight nodes lack a node, and 2220000 alone a frame.
 pub fn short(random: &mut Random, noise: &Noise) -> Outcome {
     let mut outcome = Outcome::default();
     for length in 0..=SHORT {
@@ -59,13 +87,25 @@ pub fn short(random: &mut Random, noise: &Noise) -> Outcome {
             outcome.add(read(random, noise, &text, 7, 3));
         }
     }
+    let fit: usize = (1..8).map(trees_of).sum();
+    let counts = outcome.counts;
+    if [counts[0], counts[8], counts[9]] != [fit - 1, trees_of(8), 1] {
+        outcome.differences += 1;
+        println!("Read: there are not so many trees of at most 8 nodes: {counts:?}");
+    }
     outcome
 }
 
-/// Beginnings of so many whole texts, each completed by as many leaves as it lacks trees, and then
-/// with one leaf too few, one too many, and other digits that are too few.
+/// Figure 1.1 and its beginning that is whole; then beginnings of so many whole texts, each completed
+/// by as many leaves as it lacks trees, and with one leaf too few, one too many, and other digits
+/// that are too few.
 pub fn completed(random: &mut Random, noise: &Noise, texts: usize) -> Outcome {
     let mut outcome = Outcome::default();
+    let figure = FIGURE.concat();
+    for (end, refusal) in [(FIGURE_WHOLE, 0), (FIGURE_WHOLE - 1, 4), (figure.len(), 4)] {
+        let text = &figure.as_bytes()[..end];
+        outcome.add_known(read(random, noise, text, 575, 575), refusal);
+    }
     for _ in 0..texts {
         let mut text = trees::text(random);
         text.truncate(random.below(text.len() + 1));

@@ -1,8 +1,8 @@
--- `whole_text::scan` meets its contract. The loop's invariant: after the digits before i `wanted` trees are wanted, and `most` at the most before one of
--- them. Assumes nothing.
+-- `whole_text::scan` meets its contract. The loop's invariant: after the digits before i `wanted` trees are wanted, and `most` at the most before
+-- one of them. Assumes nothing.
 use Prim.Native.Nat.{_-_, max}
 use mathlib.Core.Logic.{⊎-elim}
-use mathlib.Core.Path.{_≡_, sym, _∙_}
+use mathlib.Core.Path.{_≡_}
 use native.Mathlib.Omega.{arith}
 use lib.ListN.{length}
 use Rattle.whole_text.specs.Code.{wantedOf, ScanSays}
@@ -10,8 +10,6 @@ use Rattle.whole_text.proofs.Scanning.{Scans, scan-start, scan-digit, s
 use borrow.Author.Needs.{needs}
 use Rattle.whole_text.proofs.scan.Statement.{statement}
 use Rattle.whole_text.proofs.scan.Tie as tie
-use Rattle.whole_text.proofs.scan.Reads as reads
-use Rattle.whole_text.proofs.scan.Lts as lts
 
 abbrev Inv-loop : tie.InvT-loop
 Inv-loop text i₀ wanted₀ most₀ i wanted most = Scans text i wanted most
@@ -53,7 +51,7 @@ loop-again c =
     let a = c .before .before .before in
     let j = a .before .before in
     let m : j .if1 .most ≡ max (j .before .before .loop .most) (j .before .before .loop .wanted) =
-        ⊎-elim (λ w. omega (arith, w .0 .taken, w .1)) (λ w. omega (arith, w .0 .left, w .1)) (j .if1 .came) in
+    ⊎-elim (λ w. omega (arith, w .0 .taken, w .1)) (λ w. omega (arith, w .0 .left, w .1)) (j .if1 .came) in
     scan-digit (j .before .before .loop .inv) (j .before .loop-test .taken) _ _ (rw (c .before .n .given .1) at (a .wanted-after .ensures)) m
 
 returns-2 : tie.Need-returns-2 Inv-loop μ-loop

@@ -1,7 +1,7 @@
 -- `whole_text::wanted_after` meets its contract: the digit's case. Assumes nothing.
-use Prim.Native.Nat.{ℕ, _+_, _≤_}
+use Prim.Native.Nat.{_+_, _≤_}
 use mathlib.Core.Logic.{⊎-elim}
-use mathlib.Core.Path.{_≡_, refl, sym, ap, _∙_}
+use mathlib.Core.Path.{_≡_}
 use native.Mathlib.Omega.{arith}
 use Rattle.ternary.specs.Wanted.{wantedAfter}
 use Rattle.whole_text.specs.Code.{wantedOf}
