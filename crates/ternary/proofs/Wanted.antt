@@ -136,7 +136,7 @@ leaves-wanted zero = refl
 leaves-wanted (suc n) = leaves-wanted n
 
 -- a digit takes one of the trees wanted at the most, and adds one at the most
-pub digit-within : (c n m : ℕ) → wantedAfter c (some n) ≡ some m → (n ≤ m + 1) × (m ≤ n + 1)
+digit-within : (c n m : ℕ) → wantedAfter c (some n) ≡ some m → (n ≤ m + 1) × (m ≤ n + 1)
 unfolding wantedAfter
 digit-within c zero m e = zero-one (cc)
 digit-within c (suc n) m e = go (eqb c 48) (eqb c 49) (eqb c 50) e
@@ -147,22 +147,23 @@ digit-within c (suc n) m e = go (eqb c 48) (eqb c 49) (eqb c 50) e
     go false false true e = let q : suc (suc n) ≡ m = cc in (omega arith, omega arith)
     go false false false e = zero-one (cc)
 
--- digits take at most as many of the trees wanted as they are
-digits-take : (l : List ℕ) (n m : ℕ) → wantedFrom (some n) l ≡ some m → n ≤ m + length l
+-- and digits take and add as many at the most as they are
+pub digits-within : (l : List ℕ) (n m : ℕ) → wantedFrom (some n) l ≡ some m → (n ≤ m + length l) × (m ≤ n + length l)
 unfolding wantedFrom
-digits-take [] n m e = let q : n ≡ m = cc in omega arith
-digits-take (c ∷ l) n m e = go (wantedAfter c (some n)) refl e (λ k. digits-take l k m)
+digits-within [] n m e = let q : n ≡ m = cc in (omega arith, omega arith)
+digits-within (c ∷ l) n m e = go (wantedAfter c (some n)) refl e (λ k. digits-within l k m)
   where
-    go : (o : Option ℕ) → wantedAfter c (some n) ≡ o → wantedFrom o l ≡ some m → ((k : ℕ) → wantedFrom (some k) l ≡ some m → k ≤ m + length l) → n ≤ m + length (c ∷ l)
+    go : (o : Option ℕ) → wantedAfter c (some n) ≡ o → wantedFrom o l ≡ some m
+        → ((k : ℕ) → wantedFrom (some k) l ≡ some m → (k ≤ m + length l) × (m ≤ k + length l)) → (n ≤ m + length (c ∷ l)) × (m ≤ n + length (c ∷ l))
     go none p e f = zero-one (cc (none-wanted l))
-    go (some k) p e f = omega (arith, digit-within c n k p .0, f k e)
+    go (some k) p e f = let a = digit-within c n k p in let b = f k e in (omega (arith, a .0, b .0), omega (arith, a .1, b .1))
 
 wanted-fewest : (l : List ℕ) (n : ℕ) → wanted l ≡ some n → Fewest l n
 unfolding wanted
 wanted-fewest l n e =
     record {
       leaves = wanted-whole (l ++ replicate n 48) .0 (wanted-append (some 1) l (replicate n 48) ∙ rw e (leaves-wanted n));
-      least = λ r w. let d = rest-wanted l r w in let q : n ≡ d .0 = cc in omega (arith, digits-take r (d .0) 0 (d .1 .1));
+      least = λ r w. let d = rest-wanted l r w in let q : n ≡ d .0 = cc in omega (arith, digits-within r (d .0) 0 (d .1 .1) .0);
     }
 
 fewest-wanted : (l : List ℕ) (n : ℕ) → Fewest l n → wanted l ≡ some n

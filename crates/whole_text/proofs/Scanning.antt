@@ -6,11 +6,11 @@ use mathlib.Core.Option.{none, some}
 use native.Mathlib.Numerals.{add-one}
 use native.Mathlib.Omega.{arith}
 use lib.ListN.{length, getD, take, drop, take-append-drop}
-use lib.Seq.{take-suc, take-length, drop-cons, drop-length}
+use lib.Seq.{take-suc, take-length, length-take-le, drop-cons, drop-length}
 use borrow.Author.Tests.{eq-eqb, ne-eqb}
 use Rattle.ternary.specs.Text.{treeOf}
 use Rattle.ternary.specs.Wanted.{wantedAfter, wantedFrom, wanted, manyWanted, mostWanted, Fewest}
-use Rattle.ternary.proofs.Wanted.{wanted-append, wanted-whole, wanted-broken, wanted-ends, most-wanted, digit-within, fewest-exact}
+use Rattle.ternary.proofs.Wanted.{wanted-append, wanted-whole, wanted-broken, wanted-ends, most-wanted, digits-within, fewest-exact}
 use Rattle.whole_text.specs.declared.Scanned.the-variants.{Whole}
 use Rattle.whole_text.specs.Code.{ScanSays}
 
@@ -32,18 +32,22 @@ after-other c (suc n) x y z = rw (ne-eqb c 48 x, ne-eqb c 49 y, ne-eqb c 50 z)
 -- the state of the scan before digit i: n trees wanted, and the most before a digit so far
 pub record Scans (l : List ℕ) (i n most : ℕ) : Type 0 where
   pub inside : i ≤ length l
-  pub few : n ≤ i + 1
   pub before : wanted (take i l) ≡ some n
   pub most-is : mostWanted (some 1) l ≡ max most (mostWanted (some n) (drop i l))
 
 pub scan-start : (l : List ℕ) → Scans l 0 1 0
 unfolding wanted wantedFrom
-scan-start l = record { inside = omega arith; few = omega arith; before = refl; most-is = omega arith }
+scan-start l = record { inside = omega arith; before = refl; most-is = omega arith }
 
 module _ {l : List ℕ} {i n most : ℕ} (s : Scans l i n most) where
   -- "After any beginning that can still become whole" ([7]) the scan's number is the fewest digits that complete it.
   pub scan-fewest : Fewest (take i l) n
   scan-fewest = fewest-exact (take i l) n .0 (s .before)
+
+  -- no more trees are wanted than one and one for each digit
+  pub scan-few : n ≤ i + 1
+  unfolding wanted
+  scan-few = omega (arith, digits-within (take i l) 1 n (s .before) .1, length-take-le i l (s .inside))
 
   module _ (h : i < length l) where
     pub scan-digit : (m most′ : ℕ) → some m ≡ wantedAfter (getD l i 0) (some n) → most′ ≡ max most n → Scans l (i + 1) m most′
@@ -52,7 +56,6 @@ module _ {l : List ℕ} {i n most : ℕ} (s : Scans l i n most) where
         let k : mostWanted (some n) (drop i l) ≡ max n (mostWanted (some m) (drop (i + 1) l)) = rw (drop-cons l i 0 h, e, add-one i) in
         record {
           inside = omega arith;
-          few = omega (arith, s .few, digit-within (getD l i 0) n m (sym e) .1);
           before = rw (add-one i, take-suc l i 0 h) (wanted-append (some 1) (take i l) (getD l i 0 ∷ []) ∙ rw (s .before) (sym e));
           most-is = omega (arith, s .most-is);
         }

@@ -6,7 +6,7 @@ use mathlib.Core.Path.{_≡_}
 use native.Mathlib.Omega.{arith}
 use lib.ListN.{length}
 use Rattle.whole_text.specs.Code.{wantedOf, ScanSays}
-use Rattle.whole_text.proofs.Scanning.{Scans, scan-start, scan-digit, scan-broken, scan-whole, scan-wants}
+use Rattle.whole_text.proofs.Scanning.{Scans, scan-start, scan-few, scan-digit, scan-broken, scan-whole, scan-wants}
 use borrow.Author.Needs.{needs}
 use Rattle.whole_text.proofs.scan.Statement.{statement}
 use Rattle.whole_text.proofs.scan.Tie as tie
@@ -24,7 +24,7 @@ shared-slice-read-wanted-after : tie.Need-shared-slice-read-wanted-after Inv-loo
 shared-slice-read-wanted-after c = search needs
 
 wanted-after-requires : tie.Need-wanted-after-requires Inv-loop μ-loop
-wanted-after-requires c κs = let a = c .before .before .before in omega (arith, a .loop .inv .few, a .loop .inv .inside, a .before .before .pre)
+wanted-after-requires c κs = let a = c .before .before .before in omega (arith, scan-few (a .loop .inv), a .loop .inv .inside, a .before .before .pre)
 
 enum-known-n : tie.Need-enum-known-n Inv-loop μ-loop
 enum-known-n c = search needs
