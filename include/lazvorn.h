@@ -11,11 +11,14 @@
  * nothing else that is lent to it. There is no other condition: counts, node numbers and contents
  * that do not fit are refused by number.
  *
- * Each call writes five numbers to answer, in this order: refusal, node, used, steps, digits; but
- * for lazvorn_rule_text, which writes two. A refusal gives its number, used as at entry (0 for
- * lazvorn_run), and 0 for the others. Refusals 1 to 6 and 12 leave all lent memory as found.
- * Refusals 7 to 10 set the stack and the words of the nodes made in the call to 0 and leave out as
- * found. Success sets the stack to 0.
+ * Each call writes its numbers to answer, and the caller lends room for as many:
+ *   lazvorn_apply and lazvorn_run write ten: refusal, node, used, steps, digits, and the uses of
+ *     leaf, stem, drop, spread and triage, whose sum is the steps;
+ *   lazvorn_rule_text writes two: refusal, and bytes written;
+ *   every other call writes the first five of the ten.
+ * A refusal gives its number, used as at entry (0 for lazvorn_run), and 0 for the others. Refusals
+ * 1 to 6 and 12 leave all lent memory as found. Refusals 7 to 10 set the stack and the words of the
+ * nodes made in the call to 0 and leave out as found. Success sets the stack to 0.
  */
 #ifndef LAZVORN_H
 #define LAZVORN_H
@@ -33,7 +36,13 @@ enum {
     LAZVORN_NODE = 1,    /* the node that was made or found */
     LAZVORN_USED = 2,    /* the count of used nodes after the call */
     LAZVORN_STEPS = 3,   /* the uses of the five rules */
-    LAZVORN_DIGITS = 4   /* the digits written to out */
+    LAZVORN_DIGITS = 4,  /* the digits written to out */
+    LAZVORN_LEAF = 5,    /* of lazvorn_apply and lazvorn_run alone: the uses of the rule leaf, */
+    LAZVORN_STEM = 6,    /* of stem; on success each of these two made a node of its own, */
+    LAZVORN_DROP = 7,    /* of drop, */
+    LAZVORN_SPREAD = 8,  /* of spread, */
+    LAZVORN_TRIAGE = 9,  /* and of triage */
+    LAZVORN_COUNTED = 10 /* how many numbers these two calls write */
 };
 
 /* Refusals. */
@@ -85,7 +94,7 @@ void lazvorn_translate(
     size_t bytes_len,     /* how many bytes */
     size_t answer[5]);    /* the five numbers */
 
-/* Applies one node to another. Gives node, used and steps. Refusals 1, 2, 3, 7, 8, 9. */
+/* Applies one node to another. Gives node, used, steps and uses. Refusals 1, 2, 3, 7, 8, 9. */
 void lazvorn_apply(
     uint32_t *table,   /* the table's words */
     size_t table_len,  /* how many words */
@@ -95,7 +104,7 @@ void lazvorn_apply(
     size_t function,   /* the node applied */
     size_t argument,   /* the node it is applied to */
     size_t limit,      /* the step limit, at most 1,000,000 */
-    size_t answer[5]); /* the five numbers */
+    size_t answer[10]); /* the ten numbers */
 
 /* Labels a rule with a tree: seven new nodes. Gives node and used. Refusals 1, 2, 3, 8. */
 void lazvorn_label(
@@ -107,7 +116,8 @@ void lazvorn_label(
     size_t answer[5]); /* the five numbers */
 
 /*
- * Runs a packet with the table taken as empty. Gives used, steps and digits. Refusals 1, 4 to 10.
+ * Runs a packet with the table taken as empty. Gives used, steps, digits and uses. Refusals 1, 4
+ * to 10.
  * The step limit of a packet that names none (by tag 3) is 100,000.
  */
 void lazvorn_run(
@@ -119,7 +129,7 @@ void lazvorn_run(
     size_t out_len,        /* how many bytes */
     const uint8_t *packet, /* the packet, at most 16,384 bytes */
     size_t packet_len,     /* how many bytes */
-    size_t answer[5]);     /* the five numbers */
+    size_t answer[10]);    /* the ten numbers */
 
 /*
  * Reads a rule text and writes the bytes of its term to out. Gives the refusal and how many bytes

@@ -28,13 +28,20 @@ fn main() {
     link(linker.expect("gcc or clang"), &engine, &out);
 }
 
-/// The loop without the paper's checks and with them, where the compiler is there.
-fn compile(compiler: &str, out: &Path) -> Option<[PathBuf; 2]> {
+/// The loop without the paper's checks, with three counters, and with the checks, where the compiler
+/// is there. Each compiler gets the form that is faster by it: leaf and stem in one branch, or in two.
+fn compile(compiler: &str, out: &Path) -> Option<[PathBuf; 3]> {
+    let split: &[&str] = if compiler == "clang" {
+        &["-DSPLIT"]
+    } else {
+        &[]
+    };
     let object = |words: &[&str], name: String| {
         let object = out.join(format!("{name}.o"));
         let status = Command::new(compiler)
             .args(["-O3", "-std=c11", "-Wall", "-Wextra", "-fPIC", "-c"])
             .arg("c/apply.c")
+            .args(split)
             .args(words)
             .arg(format!("-DAPPLY={name}"))
             .arg("-o")
@@ -46,6 +53,7 @@ fn compile(compiler: &str, out: &Path) -> Option<[PathBuf; 2]> {
     };
     Some([
         object(&[], format!("apply_{compiler}"))?,
+        object(&["-DDERIVED"], format!("apply_{compiler}_derived"))?,
         object(&["-DCHECKED"], format!("apply_{compiler}_checked"))?,
     ])
 }

@@ -1,14 +1,16 @@
 -- What an application still has to do by the five rules: what a use leaves of it, read off the state of the machine. Assumes nothing.
-use Prim.Native.Nat.{ℕ, suc, _+_, _-_, _*_, _<_}
+use Prim.Native.Nat.{ℕ, _+_, _-_, _*_, _<_}
 use mathlib.Core.Path.{_≡_, refl, sym, ap, _∙_, transport, transport⁻¹}
-use mathlib.Core.Bool.{cond}
 use mathlib.Core.List.{List, [], _∷_}
 use native.Mathlib.Omega.{arith}
 use lib.ListN.{length}
 use lib.Dec.{ltb}
 use borrow.Author.Tests.{ltb-true}
 use Rattle.calculus.specs.Tree.{Tree, leaf, stem, fork}
-use Rattle.calculus.specs.Rules.{Apply, by-leaf, by-stem, by-drop, by-spread, by-triage, newNodes}
+use Rattle.calculus.specs.declared.Uses.{Uses}
+use Rattle.calculus.specs.Uses.{noUses, oneLeaf, oneStem, oneDrop, oneSpread, oneTriage, _⊕_, steps}
+use Rattle.calculus.specs.Rules.{Apply, by-leaf, by-stem, by-drop, by-spread, by-triage}
+use Rattle.calculus.proofs.Counts.{same-uses}
 use Rattle.table.specs.Nodes.{Table, capacity, first, second, Sound, treeAt, make}
 use Rattle.table.specs.Claims.{Has, Kept, Places}
 use Rattle.table.proofs.Words.{sound-node}
@@ -18,26 +20,24 @@ use Rattle.applying.specs.declared.Rule.{Rule}
 use Rattle.applying.specs.declared.Rule.the-variants.{Leaf, Stem, Drop, Spread, Triage}
 use Rattle.applying.specs.declared.Frame.{Frame}
 use Rattle.applying.specs.declared.Frame.the-variants.{SpreadFirst, SpreadSecond, TriageFirst}
-use Rattle.applying.specs.Machine.{forkRule, rule, needsNode, State, Turn, more, done, stop, resume, grow, hold, useRule, turn}
+use Rattle.applying.specs.Machine.{forkRule, rule, oneUse, State, Turn, more, done, stop, resume, grow, hold, useRule, turn}
 use Rattle.applying.specs.States.{Good, FramesIn, TreeBy}
-use Rattle.applying.proofs.States.{cond-by, words-by, RuleIn, rule-in, tableOf, turn-later}
+use Rattle.applying.proofs.States.{cond-by, words-by, RuleIn, rule-in, tableOf, turn-later, wanted, counted}
 
--- f is applied to n, and P goes on from the outcome; k uses in all, and m new nodes
-pub record Then (f n : Tree) (P : Tree → ℕ → ℕ → Type 0) (k m : ℕ) : Type 0 where
+-- f is applied to n, and P goes on from the outcome; k are the uses of all that
+pub record Then (f n : Tree) (P : Tree → Uses → Type 0) (k : Uses) : Type 0 where
   pub outcome : Tree
-  pub taken : ℕ
-  pub left : ℕ
-  pub rest : ℕ
+  pub taken : Uses
+  pub left : Uses
   pub applies : Apply f n outcome taken
-  pub goes : P outcome left rest
-  pub counted : k ≡ taken + left
-  pub new : m ≡ newNodes applies + rest
+  pub goes : P outcome left
+  pub counted : k ≡ taken ⊕ left
 
-pub and-then : {f n r : Tree} {P : Tree → ℕ → ℕ → Type 0} {a k m : ℕ} (b c : ℕ) (d : Apply f n r a) → P r b c → k ≡ a + b → m ≡ newNodes d + c → Then f n P k m
-and-then {r = r} {a = a} b c d x e g = record { outcome = r; taken = a; left = b; rest = c; applies = d; goes = x; counted = e; new = g }
+pub and-then : {f n r : Tree} {P : Tree → Uses → Type 0} {a k : Uses} (b : Uses) → Apply f n r a → P r b → k ≡ a ⊕ b → Then f n P k
+and-then {r = r} {a = a} b d x e = record { outcome = r; taken = a; left = b; applies = d; goes = x; counted = e }
 
 -- an application takes at least one use
-pub uses-some : {f n r : Tree} {k : ℕ} → Apply f n r k → 0 < k
+pub uses-some : {f n r : Tree} {k : Uses} → Apply f n r k → 0 < steps k
 uses-some by-leaf = omega arith
 uses-some by-stem = omega arith
 uses-some by-drop = omega arith
@@ -46,69 +46,74 @@ uses-some (by-triage c d) = omega arith
 
 -- What the first use leaves, by the five rules: a tree to go on from, or the applications of spread ("applies y to N giving v, then p to N
 -- giving w, then v to w") and of triage ("applies N to p giving v, then v to q").
-abbrev pub Use : Tree → Tree → (Tree → ℕ → ℕ → Type 0) → ℕ → ℕ → Type 0
-Use leaf n P k m = P (stem n) k m
-Use (stem p) n P k m = P (fork p n) k m
-Use (fork leaf y) n P k m = P y k m
-Use (fork (stem p) y) n P k m = Then y n (λ v. Then p n (λ w. Then v w P)) k m
-Use (fork (fork p q) y) n P k m = Then n p (λ v. Then v q P) k m
+abbrev pub Use : Tree → Tree → (Tree → Uses → Type 0) → Uses → Type 0
+Use leaf n P k = P (stem n) k
+Use (stem p) n P k = P (fork p n) k
+Use (fork leaf y) n P k = P y k
+Use (fork (stem p) y) n P k = Then y n (λ v. Then p n (λ w. Then v w P)) k
+Use (fork (fork p q) y) n P k = Then n p (λ v. Then v q P) k
 
--- the new nodes of the first use alone
-abbrev firstNew : Tree → ℕ
-firstNew leaf = 1
-firstNew (stem p) = 1
-firstNew (fork p q) = 0
+-- the first use alone
+abbrev firstUse : Tree → Uses
+firstUse leaf = oneLeaf
+firstUse (stem p) = oneStem
+firstUse (fork leaf y) = oneDrop
+firstUse (fork (stem p) y) = oneSpread
+firstUse (fork (fork p q) y) = oneTriage
+
+-- the uses of spread and of triage, in the order in which they are taken
+in-spread : (o a b c d : Uses) → o ⊕ a ⊕ b ⊕ c ⊕ d ≡ o ⊕ (a ⊕ (b ⊕ (c ⊕ d)))
+in-spread o a b c d = same-uses (omega arith) (omega arith) (omega arith) (omega arith) (omega arith)
+
+in-triage : (o a b d : Uses) → o ⊕ a ⊕ b ⊕ d ≡ o ⊕ (a ⊕ (b ⊕ d))
+in-triage o a b d = same-uses (omega arith) (omega arith) (omega arith) (omega arith) (omega arith)
 
 -- An application is its first use and what that leaves: "Each use is one step, counted when taken, before the applications under it."
-pub first-use : {f n : Tree} {P : Tree → ℕ → ℕ → Type 0} {k m : ℕ} → Then f n P (suc k) m → Use f n P k (m - firstNew f)
-unfolding newNodes
-first-use {P = P} {k = k} {m = m} x = go (x .applies) (x .goes) (x .counted) (x .new)
+pub first-use : {f n : Tree} {P : Tree → Uses → Type 0} {k : Uses} → Then f n P k → (j : Uses) × Use f n P j × (k ≡ firstUse f ⊕ j)
+first-use {P = P} {k = k} x = go (x .applies) (x .goes) (x .counted)
   where
-    one : {r : Tree} {b c : ℕ} (i : ℕ) → P r b c → suc k ≡ 1 + b → m ≡ i + c → P r k (m - i)
-    one {b = b} {c = c} i y e g =
-        let p : k ≡ b = omega arith in
-        let q : m - i ≡ c = omega arith in
-        rw (p, q) y
+    go : {f n r : Tree} {a b : Uses} → Apply f n r a → P r b → k ≡ a ⊕ b → (j : Uses) × Use f n P j × (k ≡ firstUse f ⊕ j)
+    go by-leaf y e = (_, y, e)
+    go by-stem y e = (_, y, e)
+    go by-drop y e = (_, y, e)
+    go {b = b} (by-spread {a = i} {b = j} {c = l} c d e) y q =
+        (_, and-then (j ⊕ (l ⊕ b)) c (and-then (l ⊕ b) d (and-then b e y refl) refl) refl, q ∙ in-spread oneSpread i j l b)
+    go {b = b} (by-triage {a = i} {b = j} c d) y q = (_, and-then (j ⊕ b) c (and-then b d y refl) refl, q ∙ in-triage oneTriage i j b)
 
-    go : {f n r : Tree} {a b c : ℕ} (d : Apply f n r a) → P r b c → suc k ≡ a + b → m ≡ newNodes d + c → Use f n P k (m - firstNew f)
-    go by-leaf y e g = one 1 y e g
-    go by-stem y e g = one 1 y e g
-    go by-drop y e g = one 0 y e g
-    go (by-spread c d l) y e g = and-then _ _ c (and-then _ _ d (and-then _ _ l y refl refl) refl refl) (omega arith) (omega arith)
-    go (by-triage c d) y e g = and-then _ _ c (and-then _ _ d y refl refl) (omega arith) (omega arith)
+pub before-use : (f : Tree) {n : Tree} {P : Tree → Uses → Type 0} (k : Uses) → Use f n P k → Then f n P (firstUse f ⊕ k)
+before-use leaf k x = and-then k by-leaf x refl
+before-use (stem p) k x = and-then k by-stem x refl
+before-use (fork leaf y) k x = and-then k by-drop x refl
+before-use (fork (stem p) y) k x =
+    let v = x .goes in
+    let w = v .goes in
+    and-then (w .left) (by-spread (x .applies) (v .applies) (w .applies)) (w .goes)
+    (rw (x .counted, v .counted, w .counted, in-spread oneSpread (x .taken) (v .taken) (w .taken) (w .left)))
+before-use (fork (fork p q) y) k x =
+    let v = x .goes in
+    and-then (v .left) (by-triage (x .applies) (v .applies)) (v .goes) (rw (x .counted, v .counted, in-triage oneTriage (x .taken) (v .taken) (v .left)))
 
-pub before-use : (f : Tree) {n : Tree} {P : Tree → ℕ → ℕ → Type 0} {k : ℕ} (m : ℕ) → Use f n P k m → Then f n P (suc k) (firstNew f + m)
-unfolding newNodes
-before-use leaf m x = and-then _ _ by-leaf x (omega arith) (omega arith)
-before-use (stem p) m x = and-then _ _ by-stem x (omega arith) (omega arith)
-before-use (fork leaf y) m x = and-then _ _ by-drop x (omega arith) (omega arith)
-before-use (fork (stem p) y) m x =
-    and-then _ _ (by-spread (x .applies) (x .goes .applies) (x .goes .goes .applies)) (x .goes .goes .goes)
-    (omega (arith, x .counted, x .goes .counted, x .goes .goes .counted)) (omega (arith, x .new, x .goes .new, x .goes .goes .new))
-before-use (fork (fork p q) y) m x =
-    and-then _ _ (by-triage (x .applies) (x .goes .applies)) (x .goes .goes) (omega (arith, x .counted, x .goes .counted)) (omega (arith, x .new, x .goes .new))
-
--- The frames, handed a tree, lead to the tree o in k uses and m new nodes; the trees of nodes are read in the words w.
-abbrev pub Cont : List ℕ → Tree → List Frame → Tree → ℕ → ℕ → Type 0
-Cont w o [] = λ r k m. (r ≡ o) × (k ≡ 0) × (m ≡ 0)
+-- The frames, handed a tree, lead to the tree o with the uses k; the trees of nodes are read in the words w.
+abbrev pub Cont : List ℕ → Tree → List Frame → Tree → Uses → Type 0
+Cont w o [] = λ r k. (r ≡ o) × (k ≡ noUses)
 Cont w o (SpreadFirst p n ∷ fs) = λ r. Then (treeAt w p) (treeAt w n) (λ x. Then r x (Cont w o fs))
 Cont w o (SpreadSecond v ∷ fs) = λ r. Then (treeAt w v) r (Cont w o fs)
 Cont w o (TriageFirst q ∷ fs) = λ r. Then r (treeAt w q) (Cont w o fs)
 
--- the state s leads to the tree o in k uses and m new nodes
-abbrev pub Leads : List ℕ → State → Tree → ℕ → ℕ → Type 0
-Leads w s o k m = Then (treeAt w (s .function)) (treeAt w (s .argument)) (Cont w o (s .frames)) k m
+-- the state s leads to the tree o with the uses k
+abbrev pub Leads : List ℕ → State → Tree → Uses → Type 0
+Leads w s o k = Then (treeAt w (s .function)) (treeAt w (s .argument)) (Cont w o (s .frames)) k
 
 -- a turn leads to it; S is what is said of a stop
-abbrev pub TurnLeads : List ℕ → Tree → ℕ → ℕ → Type 0 → Turn → Type 0
-TurnLeads w o k m S (more z) = Leads w z o k m
-TurnLeads w o k m S (done p j) = (treeAt w (p .node) ≡ o) × (k ≡ 0) × (m ≡ 0)
-TurnLeads w o k m S (stop e t) = S
+abbrev pub TurnLeads : List ℕ → Tree → Uses → Type 0 → Turn → Type 0
+TurnLeads w o k S (more z) = Leads w z o k
+TurnLeads w o k S (done p j) = (treeAt w (p .node) ≡ o) × (k ≡ noUses)
+TurnLeads w o k S (stop e t) = S
 
-said : (w : List ℕ) (o : Tree) (k m : ℕ) {R S : Type 0} (x : Turn) → (R → S) → TurnLeads w o k m R x → TurnLeads w o k m S x
-said w o k m (more z) f l = l
-said w o k m (done p j) f l = l
-said w o k m (stop e t) f l = f l
+said : (w : List ℕ) (o : Tree) (k : Uses) {R S : Type 0} (x : Turn) → (R → S) → TurnLeads w o k R x → TurnLeads w o k S x
+said w o k (more z) f l = l
+said w o k (done p j) f l = l
+said w o k (stop e t) f l = f l
 
 -- in a later table it is the same, for old nodes keep their trees
 cont-same : {t z : Table} → Sound t → Kept t z → (o : Tree) (fs : List Frame) → FramesIn (t .used) fs → Cont (z .words) o fs ≡ Cont (t .words) o fs
@@ -118,9 +123,9 @@ cont-same s k o (SpreadFirst p n ∷ fs) i =
 cont-same s k o (SpreadSecond v ∷ fs) i = λ d r. Then (kept-tree s k v (i .0) d) r (cont-same s k o fs (i .1) d)
 cont-same s k o (TriageFirst q ∷ fs) i = λ d r. Then r (kept-tree s k q (i .0) d) (cont-same s k o fs (i .1) d)
 
-pub leads-same : {all : ℕ} {s : State} {z : Table} → Good all s → Kept (s .table) z → (o : Tree) (k m : ℕ)
-    → Leads (s .table .words) s o k m → Leads (z .words) s o k m
-leads-same {s = s} g k o j m x =
+pub leads-same : {all : ℕ} {s : State} {z : Table} → Good all s → Kept (s .table) z → (o : Tree) (k : Uses)
+    → Leads (s .table .words) s o k → Leads (z .words) s o k
+leads-same {s = s} g k o j x =
     let t = kept-tree (g .fine) k in
     rw (t (s .function) (g .function-in), t (s .argument) (g .argument-in), cont-same (g .fine) k o (s .frames) (g .frames-in)) x
 
@@ -152,15 +157,15 @@ same-rule {t} {z} s k i h =
     rw (a i h, b i h, a x l, b x l)
 
 -- What a turn from a good state leads to is what the use of its rule leaves. Trees are read in a later table y.
-module _ {all : ℕ} {s : State} (g : Good all s) {y : Table} (fine : Sound y) (kept : Kept (s .table) y) (o : Tree) (k m : ℕ) where
+module _ {all : ℕ} {s : State} (g : Good all s) {y : Table} (fine : Sound y) (kept : Kept (s .table) y) (o : Tree) (k : Uses) where
   abbrev tree : ℕ → Tree
   tree = treeAt (y .words)
 
   abbrev Left : Tree → Type 0
-  Left x = Use x (tree (s .argument)) (Cont (y .words) o (s .frames)) k m
+  Left x = Use x (tree (s .argument)) (Cont (y .words) o (s .frames)) k
 
-  resume-leads : (S : Type 0) (t : Table) (fs : List Frame) (j v : ℕ)
-      → (TurnLeads (y .words) o k m S (resume t fs j v) ≡ Cont (y .words) o fs (tree v) k m) × (tableOf (resume t fs j v) ≡ t)
+  resume-leads : (S : Type 0) (t : Table) (fs : List Frame) (j : Uses) (v : ℕ)
+      → (TurnLeads (y .words) o k S (resume t fs j v) ≡ Cont (y .words) o fs (tree v) k) × (tableOf (resume t fs j v) ≡ t)
   unfolding resume
   resume-leads S t [] j v = (refl, refl)
   resume-leads S t (SpreadFirst p n ∷ fs) j v = (refl, refl)
@@ -170,62 +175,63 @@ module _ {all : ℕ} {s : State} (g : Good all s) {y : Table} (fine : Sound y) (
   old : {i : ℕ} → i < s .table .used → Has (s .table) i (tree i)
   old {i} h = record { inside = h; tree = sym (kept-tree (g .fine) kept i h) }
 
-  grow-leads : (a b : ℕ) {x : Tree} → (s .table .used < capacity (s .table .words) → Places (s .table) (make (s .table) a b) x)
-      → Kept (tableOf (grow s a b)) y
-      → TurnLeads (y .words) o k m (Cont (y .words) o (s .frames) x k m) (grow s a b) ≡ Cont (y .words) o (s .frames) x k m
+  grow-leads : (i : Uses) (a b : ℕ) {x : Tree} → (s .table .used < capacity (s .table .words) → Places (s .table) (make (s .table) a b) x)
+      → Kept (tableOf (grow s i a b)) y
+      → TurnLeads (y .words) o k (Cont (y .words) o (s .frames) x k) (grow s i a b) ≡ Cont (y .words) o (s .frames) x k
   unfolding grow
-  grow-leads a b {x} p =
-      cond-by (λ z. Kept (tableOf z) y → TurnLeads (y .words) o k m (Cont (y .words) o (s .frames) x k m) z ≡ Cont (y .words) o (s .frames) x k m)
+  grow-leads i a b {x} p =
+      cond-by (λ z. Kept (tableOf z) y → TurnLeads (y .words) o k (Cont (y .words) o (s .frames) x k) z ≡ Cont (y .words) o (s .frames) x k)
       (ltb (s .table .used) (capacity (s .table .words)))
       (λ e j. let q = p (ltb-true _ _ e) in
-      let r = resume-leads _ (make (s .table) a b .table) (s .frames) (s .steps + 1) (make (s .table) a b .node) in
-      r .0 ∙ ap (λ (z : Tree). Cont (y .words) o (s .frames) z k m) (kept-tree (q .fine) (rw (r .1) at j) _ (q .inside) ∙ q .tree))
+      let r = resume-leads _ (make (s .table) a b .table) (s .frames) i (make (s .table) a b .node) in
+      r .0 ∙ ap (λ (z : Tree). Cont (y .words) o (s .frames) z k) (kept-tree (q .fine) (rw (r .1) at j) _ (q .inside) ∙ q .tree))
       (λ e j. refl)
 
-  hold-leads : (e : Frame) (f n : ℕ) {S : Type 0}
-      → S ≡ Leads (y .words) (record { table = s .table; function = f; argument = n; frames = e ∷ s .frames; steps = s .steps + 1 }) o k m
-      → TurnLeads (y .words) o k m S (hold all s e f n) ≡ S
+  hold-leads : (i : Uses) (e : Frame) (f n : ℕ) {S : Type 0}
+      → S ≡ Leads (y .words) (record { table = s .table; function = f; argument = n; frames = e ∷ s .frames; uses = i }) o k
+      → TurnLeads (y .words) o k S (hold all s i e f n) ≡ S
   unfolding hold
-  hold-leads e f n {S} q = cond-by (λ z. TurnLeads (y .words) o k m S z ≡ S) (ltb (length (s .frames)) all) (λ b. sym q) (λ b. refl)
+  hold-leads i e f n {S} q = cond-by (λ z. TurnLeads (y .words) o k S z ≡ S) (ltb (length (s .frames)) all) (λ b. sym q) (λ b. refl)
 
-  use-leads : (r : Rule) (x : Tree) → RuleIn (s .table .used) r → TreeBy (y .words) r x → Kept (tableOf (useRule all s r)) y
-      → TurnLeads (y .words) o k m (Left x) (useRule all s r) ≡ Left x
+  use-leads : (c : Uses) (r : Rule) (x : Tree) → RuleIn (s .table .used) r → TreeBy (y .words) r x → Kept (tableOf (useRule all s c r)) y
+      → TurnLeads (y .words) o k (Left x) (useRule all s c r) ≡ Left x
   unfolding useRule
-  use-leads Leaf x i e j = rw e (grow-leads (s .argument + 1) 0 (λ h. stem-of (g .fine) h (old (g .argument-in))) j)
-  use-leads (Stem p) x i e j = rw e (grow-leads (p + 1) (s .argument + 1) (λ h. fork-of (g .fine) h (old i) (old (g .argument-in))) j)
-  use-leads (Drop z) x i e j = rw e (resume-leads _ (s .table) (s .frames) (s .steps + 1) z .0)
-  use-leads (Spread p z) x i e j = rw e (hold-leads (SpreadFirst p (s .argument)) z (s .argument) refl)
-  use-leads (Triage p q) x i e j = rw (e .1) (hold-leads (TriageFirst q) (s .argument) p refl)
+  use-leads c Leaf x i e j = rw e (grow-leads c (s .argument + 1) 0 (λ h. stem-of (g .fine) h (old (g .argument-in))) j)
+  use-leads c (Stem p) x i e j = rw e (grow-leads c (p + 1) (s .argument + 1) (λ h. fork-of (g .fine) h (old i) (old (g .argument-in))) j)
+  use-leads c (Drop z) x i e j = rw e (resume-leads _ (s .table) (s .frames) c z .0)
+  use-leads c (Spread p z) x i e j = rw e (hold-leads c (SpreadFirst p (s .argument)) z (s .argument) refl)
+  use-leads c (Triage p q) x i e j = rw (e .1) (hold-leads c (TriageFirst q) (s .argument) p refl)
 
-  turn-leads : Kept (tableOf (turn all s)) y → TurnLeads (y .words) o k m (Left (tree (s .function))) (turn all s) ≡ Left (tree (s .function))
+  turn-leads : Kept (tableOf (turn all s)) y → TurnLeads (y .words) o k (Left (tree (s .function))) (turn all s) ≡ Left (tree (s .function))
   unfolding turn
   turn-leads =
-      use-leads (rule (s .table .words) (s .function)) (tree (s .function)) (rule-in (g .fine) (s .function) (g .function-in))
+      use-leads (counted s) (wanted s) (tree (s .function)) (rule-in (g .fine) (s .function) (g .function-in))
       (rw (← same-rule (g .fine) kept (s .function) (g .function-in)) (tree-by fine (s .function) (omega (arith, g .function-in, kept .up))))
 
--- the new nodes of the first use of a tree are those of the rule that is taken for it
-rule-new : (w : List ℕ) (r : Rule) (x : Tree) → TreeBy w r x → firstNew x ≡ cond (needsNode r) 1 0
-unfolding needsNode
-rule-new w Leaf x e = rw e
-rule-new w (Stem p) x e = rw e
-rule-new w (Drop y) x e = rw e
-rule-new w (Spread p y) x e = rw e
-rule-new w (Triage p q) x e = rw (e .1)
+-- the first use of a tree is that of the rule that is taken for it
+rule-first : (w : List ℕ) (r : Rule) (x : Tree) → TreeBy w r x → firstUse x ≡ oneUse r
+unfolding oneUse
+rule-first w Leaf x e = rw e
+rule-first w (Stem p) x e = rw e
+rule-first w (Drop y) x e = rw e
+rule-first w (Spread p y) x e = rw e
+rule-first w (Triage p q) x e = rw (e .1)
 
-module _ {all : ℕ} {s : State} (g : Good all s) {y : Table} (fine : Sound y) (kept : Kept (tableOf (turn all s)) y) (o : Tree) (k m : ℕ) where
+module _ {all : ℕ} {s : State} (g : Good all s) {y : Table} (fine : Sound y) (kept : Kept (tableOf (turn all s)) y) (o : Tree) (k : Uses) where
   since : Kept (s .table) y
   since = kept-trans (turn-later g .extends .kept) kept
 
-  -- Where the turn leads to o in k uses, the state before it does in k + 1, and the other way round. The use makes the node that its rule needs.
-  pub leads-before : TurnLeads (y .words) o k m ⊥ (turn all s)
-      → Leads (y .words) s o (suc k) (cond (needsNode (rule (s .table .words) (s .function))) 1 0 + m)
-  leads-before x =
-      rw (
-        ← same-rule (g .fine) since (s .function) (g .function-in),
-        ← rule-new (y .words) _ _ (tree-by fine (s .function) (omega (arith, g .function-in, since .up))),
-      )
-      (before-use _ m (transport (turn-leads g fine since o k m kept) (said (y .words) o k m (turn all s) (λ e. absurd e) x)))
+  first-is : firstUse (treeAt (y .words) (s .function)) ≡ oneUse (wanted s)
+  first-is =
+      rule-first (y .words) _ _ (tree-by fine (s .function) (omega (arith, g .function-in, since .up)))
+      ∙ ap oneUse (same-rule (g .fine) since (s .function) (g .function-in))
 
-  pub leads-after : Leads (y .words) s o (suc k) m → (j : ℕ) × TurnLeads (y .words) o k j (Unit {0}) (turn all s)
+  -- Where the turn leads to o with the uses k, the state before it does with these and the use of its rule, and the other way round.
+  pub leads-before : TurnLeads (y .words) o k ⊥ (turn all s) → Leads (y .words) s o (oneUse (wanted s) ⊕ k)
+  leads-before x =
+      rw (← first-is) (before-use _ k (transport (turn-leads g fine since o k kept) (said (y .words) o k (turn all s) (λ e. absurd e) x)))
+
+  pub leads-after : Leads (y .words) s o k → (j : Uses) × TurnLeads (y .words) o j (Unit {0}) (turn all s) × (k ≡ oneUse (wanted s) ⊕ j)
   leads-after x =
-      (_, said (y .words) o k _ (turn all s) (λ e. tt) (transport⁻¹ (turn-leads g fine since o k _ kept) (first-use x)))
+      let i = first-use x in
+      (i .0, said (y .words) o (i .0) (turn all s) (λ e. tt) (transport⁻¹ (turn-leads g fine since o (i .0) kept) (i .1)), rw first-is at (i .2))

@@ -1,6 +1,6 @@
 -- What holds of every state of an application, what a use of a rule leads to, and how uses add up. Assumes nothing.
 use Prim.Native.Nat.{ℕ, zero, suc, _+_, _-_, _≤_, _<_}
-use mathlib.Core.Path.{_≡_, refl}
+use mathlib.Core.Path.{_≡_, refl, ap, _∙_}
 use mathlib.Core.Bool.{Bool, true, false, cond}
 use mathlib.Core.List.{List, [], _∷_}
 use native.Mathlib.Omega.{arith}
@@ -8,6 +8,8 @@ use lib.ListN.{length}
 use lib.Dec.{ltb, eqb}
 use borrow.Author.Tests.{ltb-true, ltb-false, eqb-true, eqb-false}
 use Rattle.calculus.specs.Tree.{Tree}
+use Rattle.calculus.specs.declared.Uses.{Uses}
+use Rattle.calculus.specs.Uses.{_⊕_, steps, newNodes}
 use Rattle.table.specs.Nodes.{Table, Placed, capacity, first, second, Sound, make}
 use Rattle.table.specs.declared.Refusal.{Refusal}
 use Rattle.table.specs.declared.Refusal.the-variants.{Nodes, Frames}
@@ -21,7 +23,7 @@ use Rattle.applying.specs.declared.Frame.{Frame}
 use Rattle.applying.specs.declared.Frame.the-variants.{SpreadFirst, SpreadSecond, TriageFirst}
 use Rattle.applying.specs.States.{FrameIn, FramesIn, Good}
 pub use Rattle.applying.specs.States.{tableOf, Counted}
-use Rattle.applying.specs.Machine.{forkRule, rule, needsNode, needsFrame, State, Turn, more, done, stop, resume, grow, hold, useRule, turn, after, uses, madeAfter, made}
+use Rattle.applying.specs.Machine.{forkRule, rule, needsNode, needsFrame, oneUse, State, Turn, more, done, stop, resume, grow, hold, useRule, turn, after, uses, madeAfter, made}
 
 -- a choice by a test, with what the test says
 pub cond-by {ℓ} : {A : Type 0} (P : A → Type ℓ) (b : Bool) {x y : A} → (b ≡ true → P x) → (b ≡ false → P y) → P (cond b x y)
@@ -84,7 +86,7 @@ goes g x = record { fine = g .fine; extends = x; ready = g }
 halts : (all : ℕ) {t : Table} (e : Refusal) → Sound t → Later all t (stop e t)
 halts all {t} e f = record { fine = f; extends = extends-refl t; ready = tt }
 
-resume-later : {all : ℕ} {t z : Table} → Sound z → Extends t z → (fs : List Frame) (k v : ℕ)
+resume-later : {all : ℕ} {t z : Table} → Sound z → Extends t z → (fs : List Frame) (k : Uses) (v : ℕ)
     → FramesIn (z .used) fs → length fs ≤ all → v < z .used → Later all t (resume z fs k v)
 unfolding resume
 resume-later f x [] k v i h l = record { fine = f; extends = x; ready = l }
@@ -96,36 +98,36 @@ resume-later f x (TriageFirst q ∷ fs) k v i h l =
     goes (record { fine = f; function-in = l; argument-in = i .0; frames-in = i .1; held-in = omega arith }) x
 
 module _ {all : ℕ} {s : State} (g : Good all s) where
-  grow-later : (a b : ℕ) {x : Tree} → (s .table .used < capacity (s .table .words) → Places (s .table) (make (s .table) a b) x)
-      → Later all (s .table) (grow s a b)
+  grow-later : (k : Uses) (a b : ℕ) {x : Tree} → (s .table .used < capacity (s .table .words) → Places (s .table) (make (s .table) a b) x)
+      → Later all (s .table) (grow s k a b)
   unfolding grow
-  grow-later a b m =
+  grow-later k a b m =
       cond-by (Later all (s .table)) (ltb (s .table .used) (capacity (s .table .words)))
       (λ e. let p = m (ltb-true _ _ e) in
       resume-later (p .fine) (p .extends) (s .frames) _ _ (frames-up (p .extends .kept .up) (s .frames) (g .frames-in)) (g .held-in) (p .inside))
       (λ e. halts all Nodes (g .fine))
 
-  hold-later : (e : Frame) (f n : ℕ) → FrameIn (s .table .used) e → f < s .table .used → n < s .table .used → Later all (s .table) (hold all s e f n)
+  hold-later : (k : Uses) (e : Frame) (f n : ℕ) → FrameIn (s .table .used) e → f < s .table .used → n < s .table .used → Later all (s .table) (hold all s k e f n)
   unfolding hold
-  hold-later e f n i h l =
+  hold-later k e f n i h l =
       cond-by (Later all (s .table)) (ltb (length (s .frames)) all)
       (λ b. goes (record { fine = g .fine; function-in = h; argument-in = l; frames-in = (i, g .frames-in); held-in = ltb-true _ _ b })
       (extends-refl (s .table)))
       (λ b. halts all Frames (g .fine))
 
-  use-later : (r : Rule) → RuleIn (s .table .used) r → Later all (s .table) (useRule all s r)
+  use-later : (k : Uses) (r : Rule) → RuleIn (s .table .used) r → Later all (s .table) (useRule all s k r)
   unfolding useRule
-  use-later Leaf i = grow-later (s .argument + 1) 0 (λ h. make-stem (g .fine) h (s .argument) (g .argument-in))
-  use-later (Stem p) i = grow-later (p + 1) (s .argument + 1) (λ h. make-fork (g .fine) h p (s .argument) i (g .argument-in))
-  use-later (Drop y) i = resume-later (g .fine) (extends-refl (s .table)) (s .frames) (s .steps + 1) y (g .frames-in) (g .held-in) i
-  use-later (Spread p y) i = hold-later (SpreadFirst p (s .argument)) y (s .argument) (i .0, g .argument-in) (i .1) (g .argument-in)
-  use-later (Triage p q) i = hold-later (TriageFirst q) (s .argument) p (i .1) (g .argument-in) (i .0)
+  use-later k Leaf i = grow-later k (s .argument + 1) 0 (λ h. make-stem (g .fine) h (s .argument) (g .argument-in))
+  use-later k (Stem p) i = grow-later k (p + 1) (s .argument + 1) (λ h. make-fork (g .fine) h p (s .argument) i (g .argument-in))
+  use-later k (Drop y) i = resume-later (g .fine) (extends-refl (s .table)) (s .frames) k y (g .frames-in) (g .held-in) i
+  use-later k (Spread p y) i = hold-later k (SpreadFirst p (s .argument)) y (s .argument) (i .0, g .argument-in) (i .1) (g .argument-in)
+  use-later k (Triage p q) i = hold-later k (TriageFirst q) (s .argument) p (i .1) (g .argument-in) (i .0)
 
 -- A use of a rule leads from a good state to a good one, to a node in use, or to a stop, and "no other table word than those of new nodes
 -- changes" (Operations).
 pub turn-later : {all : ℕ} {s : State} → Good all s → Later all (s .table) (turn all s)
 unfolding turn
-turn-later {all} {s} g = use-later g (rule (s .table .words) (s .function)) (rule-in (g .fine) (s .function) (g .function-in))
+turn-later {all} {s} g = use-later g _ (rule (s .table .words) (s .function)) (rule-in (g .fine) (s .function) (g .function-in))
 
 later-trans : {all : ℕ} {t z : Table} {x : Turn} → Extends t z → Later all z x → Later all t x
 later-trans e l = record { fine = l .fine; extends = extends-trans e (l .extends); ready = l .ready }
@@ -142,11 +144,9 @@ uses-later (suc k) {all} {s} g = go (turn all s) (turn-later g) (λ (z : State) 
     go (done p j) l r = l
     go (stop e t) l r = l
 
--- Every turn, from any state: a further application or an outcome with one step more, or a stop for a node or a frame that the rule needs.
-module _ (all : ℕ) (s : State) (P : Turn → Type 0)
-    (goes-on : (z : State) → z .steps ≡ s .steps + 1 → P (more z))
-    (ends : (p : Placed) → P (done p (s .steps + 1))) where
-  resume-by : (t : Table) (fs : List Frame) (v : ℕ) → P (resume t fs (s .steps + 1) v)
+-- Every use, from any state: a further application or an outcome with the uses k, or a stop for a node or a frame that the rule needs.
+module _ (all : ℕ) (s : State) (k : Uses) (P : Turn → Type 0) (goes-on : (z : State) → z .uses ≡ k → P (more z)) (ends : (p : Placed) → P (done p k)) where
+  resume-by : (t : Table) (fs : List Frame) (v : ℕ) → P (resume t fs k v)
   unfolding resume
   resume-by t [] v = ends _
   resume-by t (SpreadFirst p n ∷ fs) v = goes-on _ refl
@@ -156,7 +156,7 @@ module _ (all : ℕ) (s : State) (P : Turn → Type 0)
   use-by : (r : Rule)
       → (needsNode r ≡ true → capacity (s .table .words) ≤ s .table .used → P (stop Nodes (s .table)))
       → (needsFrame r ≡ true → all ≤ length (s .frames) → P (stop Frames (s .table)))
-      → P (useRule all s r)
+      → P (useRule all s k r)
   unfolding useRule grow hold needsNode needsFrame
   use-by Leaf a b = cond-by P (ltb (s .table .used) (capacity (s .table .words))) (λ e. resume-by _ (s .frames) _) (λ e. a refl (ltb-false _ _ e))
   use-by (Stem p) a b = cond-by P (ltb (s .table .used) (capacity (s .table .words))) (λ e. resume-by _ (s .frames) _) (λ e. a refl (ltb-false _ _ e))
@@ -164,30 +164,63 @@ module _ (all : ℕ) (s : State) (P : Turn → Type 0)
   use-by (Spread p y) a b = cond-by P (ltb (length (s .frames)) all) (λ e. goes-on _ refl) (λ e. b refl (ltb-false _ _ e))
   use-by (Triage p q) a b = cond-by P (ltb (length (s .frames)) all) (λ e. goes-on _ refl) (λ e. b refl (ltb-false _ _ e))
 
-  pub turn-by : (needsNode (rule (s .table .words) (s .function)) ≡ true → capacity (s .table .words) ≤ s .table .used → P (stop Nodes (s .table)))
-      → (needsFrame (rule (s .table .words) (s .function)) ≡ true → all ≤ length (s .frames) → P (stop Frames (s .table)))
-      → P (turn all s)
-  unfolding turn
-  turn-by = use-by (rule (s .table .words) (s .function))
+-- the rule that a state takes, and its uses with the one of that rule
+abbrev pub wanted : State → Rule
+wanted s = rule (s .table .words) (s .function)
+
+abbrev pub counted : State → Uses
+counted s = s .uses ⊕ oneUse (wanted s)
+
+pub turn-by : (all : ℕ) (s : State) (P : Turn → Type 0) → ((z : State) → z .uses ≡ counted s → P (more z)) → ((p : Placed) → P (done p (counted s)))
+    → (needsNode (wanted s) ≡ true → capacity (s .table .words) ≤ s .table .used → P (stop Nodes (s .table)))
+    → (needsFrame (wanted s) ≡ true → all ≤ length (s .frames) → P (stop Frames (s .table)))
+    → P (turn all s)
+unfolding turn
+turn-by all s P goes-on ends = use-by all s (counted s) P goes-on ends (wanted s)
+
+-- a turn counted the uses k
+abbrev pub Took : Uses → Turn → Type 0
+Took k (more z) = z .uses ≡ k
+Took k (done p j) = j ≡ k
+Took k (stop e t) = Unit {0}
+
+-- "Each use of a rule tells which of the five it was." ([5])
+pub turn-took : (all : ℕ) (s : State) → Took (counted s) (turn all s)
+turn-took all s = turn-by all s (Took (counted s)) (λ z e. e) (λ p. refl) (λ a b. tt) (λ a b. tt)
+
+-- one use of a rule is one step, and makes a node where the rule needs one
+pub one-step : (r : Rule) → (steps (oneUse r) ≡ 1) × (newNodes (oneUse r) ≡ cond (needsNode r) 1 0)
+unfolding oneUse needsNode
+one-step Leaf = (refl, refl)
+one-step (Stem p) = (refl, refl)
+one-step (Drop y) = (refl, refl)
+one-step (Spread p y) = (refl, refl)
+one-step (Triage p q) = (refl, refl)
 
 -- "Each use is one step, counted when taken".
-pub turn-steps : (all : ℕ) (s : State) → Counted (s .steps) 1 (turn all s)
-turn-steps all s = turn-by all s (Counted (s .steps) 1) (λ z e. e) (λ p. omega arith) (λ a b. tt) (λ a b. tt)
+pub turn-steps : (all : ℕ) (s : State) → Counted (steps (s .uses)) 1 (turn all s)
+turn-steps all s = go (turn all s) (turn-took all s) (one-step (wanted s) .0)
+  where
+    go : (x : Turn) → Took (counted s) x → steps (oneUse (wanted s)) ≡ 1 → Counted (steps (s .uses)) 1 x
+    go (more z) t o = omega (arith, ap steps t)
+    go (done p j) t o = omega (arith, ap steps t)
+    go (stop e t) x o = tt
 
 -- "Each use is one step, counted when taken": k uses that leave a further application count k steps, and those that come to an outcome count
 -- at least one and at most k.
-pub uses-steps : (all k : ℕ) (s : State) → Counted (s .steps) k (uses all k s)
+pub uses-steps : (all k : ℕ) (s : State) → Counted (steps (s .uses)) k (uses all k s)
 unfolding uses after
 uses-steps all zero s = omega arith
 uses-steps all (suc k) s = go (turn all s) (turn-steps all s) (uses-steps all k)
   where
-    on : (j : ℕ) (x : Turn) → j ≡ s .steps + 1 → Counted j k x → Counted (s .steps) (suc k) x
+    on : (j : ℕ) (x : Turn) → j ≡ steps (s .uses) + 1 → Counted j k x → Counted (steps (s .uses)) (suc k) x
     on j (more y) e c = omega arith
     on j (done p i) e c = omega arith
     on j (stop e t) q c = tt
 
-    go : (x : Turn) → Counted (s .steps) 1 x → ((z : State) → Counted (z .steps) k (uses all k z)) → Counted (s .steps) (suc k) (after (uses all k) x)
-    go (more z) c r = on (z .steps) (uses all k z) c (r z)
+    go : (x : Turn) → Counted (steps (s .uses)) 1 x → ((z : State) → Counted (steps (z .uses)) k (uses all k z))
+        → Counted (steps (s .uses)) (suc k) (after (uses all k) x)
+    go (more z) c r = on (steps (z .uses)) (uses all k z) c (r z)
     go (done p j) c r = omega arith
     go (stop e t) c r = tt
 
@@ -196,42 +229,77 @@ module _ (all : ℕ) (s : State) where
   abbrev Grew : ℕ → Turn → Type 0
   Grew n x = tableOf x .used ≡ s .table .used + madeAfter (λ z. 0) n x
 
-  resume-grew : (n : ℕ) (t : Table) (fs : List Frame) (k v : ℕ) → t .used ≡ s .table .used + n → Grew n (resume t fs k v)
+  resume-grew : (n : ℕ) (t : Table) (fs : List Frame) (k : Uses) (v : ℕ) → t .used ≡ s .table .used + n → Grew n (resume t fs k v)
   unfolding resume madeAfter
   resume-grew n t [] k v e = e
   resume-grew n t (SpreadFirst p m ∷ fs) k v e = omega arith
   resume-grew n t (SpreadSecond u ∷ fs) k v e = omega arith
   resume-grew n t (TriageFirst q ∷ fs) k v e = omega arith
 
-  grow-grew : (a b : ℕ) → Grew 1 (grow s a b)
+  grow-grew : (k : Uses) (a b : ℕ) → Grew 1 (grow s k a b)
   unfolding grow madeAfter
-  grow-grew a b =
+  grow-grew k a b =
       cond-by (Grew 1) (ltb (s .table .used) (capacity (s .table .words)))
       (λ e. resume-grew 1 _ (s .frames) _ _ (make-used (s .table) a b)) (λ e. omega arith)
 
-  hold-grew : (e : Frame) (f n : ℕ) → Grew 0 (hold all s e f n)
+  hold-grew : (k : Uses) (e : Frame) (f n : ℕ) → Grew 0 (hold all s k e f n)
   unfolding hold madeAfter
-  hold-grew e f n = cond-by (Grew 0) (ltb (length (s .frames)) all) (λ e. omega arith) (λ e. omega arith)
+  hold-grew k e f n = cond-by (Grew 0) (ltb (length (s .frames)) all) (λ e. omega arith) (λ e. omega arith)
 
-  use-grew : (r : Rule) → Grew (cond (needsNode r) 1 0) (useRule all s r)
+  use-grew : (k : Uses) (r : Rule) → Grew (cond (needsNode r) 1 0) (useRule all s k r)
   unfolding useRule needsNode
-  use-grew Leaf = grow-grew (s .argument + 1) 0
-  use-grew (Stem p) = grow-grew (p + 1) (s .argument + 1)
-  use-grew (Drop y) = resume-grew 0 (s .table) (s .frames) _ y (omega arith)
-  use-grew (Spread p y) = hold-grew (SpreadFirst p (s .argument)) y (s .argument)
-  use-grew (Triage p q) = hold-grew (TriageFirst q) (s .argument) p
+  use-grew k Leaf = grow-grew k (s .argument + 1) 0
+  use-grew k (Stem p) = grow-grew k (p + 1) (s .argument + 1)
+  use-grew k (Drop y) = resume-grew 0 (s .table) (s .frames) k y (omega arith)
+  use-grew k (Spread p y) = hold-grew k (SpreadFirst p (s .argument)) y (s .argument)
+  use-grew k (Triage p q) = hold-grew k (TriageFirst q) (s .argument) p
+
+  turn-grew : Grew (cond (needsNode (wanted s)) 1 0) (turn all s)
+  unfolding turn
+  turn-grew = use-grew (counted s) (wanted s)
 
 -- "leaf: [..] one new node. stem: [..] one new node.": the nodes in use after at most k uses are those before and those made.
 pub uses-made : (all k : ℕ) (s : State) → tableOf (uses all k s) .used ≡ s .table .used + made all k s
-unfolding uses after turn made madeAfter
+unfolding uses after made madeAfter
 uses-made all zero s = omega arith
-uses-made all (suc k) s = go _ (turn all s) (use-grew all s (rule (s .table .words) (s .function))) (uses-made all k)
+uses-made all (suc k) s = go _ (turn all s) (turn-grew all s) (uses-made all k)
   where
     go : (n : ℕ) (x : Turn) → Grew all s n x → ((z : State) → tableOf (uses all k z) .used ≡ z .table .used + made all k z)
         → tableOf (after (uses all k) x) .used ≡ s .table .used + madeAfter (made all k) n x
     go n (more z) e r = omega (arith, e, r z)
     go n (done p j) e r = e
     go n (stop c t) e r = e
+
+-- the nodes in use since the state s are more by those of the uses counted since
+abbrev pub New : State → Turn → Type 0
+New s (more z) = z .table .used + newNodes (s .uses) ≡ s .table .used + newNodes (z .uses)
+New s (done p j) = p .table .used + newNodes (s .uses) ≡ s .table .used + newNodes j
+New s (stop e t) = Unit {0}
+
+turn-new : (all : ℕ) (s : State) → New s (turn all s)
+unfolding madeAfter
+turn-new all s = go (turn all s) (turn-took all s) (turn-grew all s) (one-step (wanted s) .1)
+  where
+    go : (x : Turn) → Took (counted s) x → Grew all s (cond (needsNode (wanted s)) 1 0) x → newNodes (oneUse (wanted s)) ≡ cond (needsNode (wanted s)) 1 0 → New s x
+    go (more z) t g o = omega (arith, ap newNodes t)
+    go (done p j) t g o = omega (arith, ap newNodes t)
+    go (stop e t) x g o = tt
+
+-- "leaf plus stem is the number of nodes made" ([5])
+pub uses-new : (all k : ℕ) (s : State) → New s (uses all k s)
+unfolding uses after
+uses-new all zero s = refl
+uses-new all (suc k) s = go (turn all s) (turn-new all s) (uses-new all k)
+  where
+    on : (z : State) (x : Turn) → New s (more z) → New z x → New s x
+    on z (more y) a b = omega arith
+    on z (done p j) a b = omega arith
+    on z (stop e t) a b = tt
+
+    go : (x : Turn) → New s x → ((z : State) → New z (uses all k z)) → New s (after (uses all k) x)
+    go (more z) a r = on z (uses all k z) a (r z)
+    go (done p j) a r = a
+    go (stop e t) a r = tt
 
 -- the nodes made had their places
 pub made-within : (k : ℕ) {all : ℕ} {s : State} → Good all s → s .table .used + made all k s ≤ capacity (s .table .words)

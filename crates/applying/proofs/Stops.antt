@@ -8,6 +8,7 @@ use lib.ListN.{length, getD}
 use lib.Seq.{ext-getD}
 use lib.Dec.{ltb}
 use borrow.Author.Tests.{ltb-true, ltb-false}
+use Rattle.calculus.specs.Uses.{noUses}
 use Rattle.table.specs.Nodes.{Table, capacity, cleared}
 use Rattle.table.specs.Outcome.{frames, zeros, stopped}
 use Rattle.table.specs.Refusal.{number, clears}
@@ -18,7 +19,7 @@ use Rattle.table.proofs.Words.{length-cleared, cleared-below, cleared-inside, c
 use Rattle.table.proofs.Entry.{enters, stopped-kept}
 use Rattle.applying.specs.declared.Applied.the-variants.{Refused}
 use Rattle.applying.specs.Machine.{State, Turn, more, done, stop, turn, after, uses, made}
-use Rattle.applying.specs.Apply.{settle, begin, apply}
+use Rattle.applying.specs.Apply.{appliedUses, settle, begin, apply}
 use Rattle.applying.specs.Lacks.{Lacks, no-place, all-held, Halts, limit-reached, at-use, ApplyLacks, at-entry, halts}
 use Rattle.applying.proofs.States.{tableOf, turn-by, Later, uses-later, Counted, uses-steps, uses-made}
 use Rattle.applying.proofs.Cases.{Ways, refused, ran, ways, checks-keep, good-begin}
@@ -143,3 +144,8 @@ module _ (w : List ℕ) (u : ℕ) (s : List ℕ) (f n limit : ℕ) where
           → (x ≡ cond (clears e) (cleared w (u * 2) ((u + made (frames s) limit (begin w u f n)) * 2)) w) × (y ≡ cond (clears e) (zeros s) s)
       go (at-entry a) = rw (checks-keep a) (refl, refl)
       go (halts i h l a) = rw (halts-clears a) (refl, refl)
+
+  -- "all 0 on refusal" ([5])
+  pub refused-counts : (e : Refusal) → apply w u s f n limit .answer ≡ Refused e → appliedUses (apply w u s f n limit .answer) ≡ noUses
+  unfolding appliedUses
+  refused-counts e q = rw q

@@ -3,6 +3,8 @@ use Prim.Native.Nat.{ℕ}
 use mathlib.Core.Bool.{Bool, true, false, cond, _&&_}
 use mathlib.Core.List.{List, []}
 use lib.Dec.{ltb, leb}
+use Rattle.calculus.specs.declared.Uses.{Uses}
+use Rattle.calculus.specs.Uses.{noUses, steps}
 use Rattle.table.specs.Nodes.{Table, Placed}
 use Rattle.table.specs.Outcome.{Outcome, whole, frames, zeros, atEntry, unless, stopped}
 use Rattle.table.specs.Refusal.{Numbers, refusedNumbers}
@@ -14,18 +16,23 @@ use Rattle.applying.specs.Machine.{State, Turn, more, done, stop, uses}
 
 -- the numbers of Apply's answer, with `used` as at entry
 unfoldable pub appliedNumbers : ℕ → Applied → Numbers
-appliedNumbers used (Node n u k) = record { refusal = 0; node = n; used = u; steps = k; digits = 0 }
+appliedNumbers used (Node n u j k) = record { refusal = 0; node = n; used = u; steps = j; digits = 0 }
 appliedNumbers used (Refused e) = refusedNumbers used e
+
+-- "Apply and Run return the uses of each, five counts in document 01's order, all 0 on refusal." ([5])
+unfoldable pub appliedUses : Applied → Uses
+appliedUses (Node n u j k) = k
+appliedUses (Refused e) = noUses
 
 -- how an application ends that had u nodes in use at entry: "refusal 7 if the step limit is reached"
 unfoldable pub settle : ℕ → List ℕ → Turn → Outcome Applied
 settle u s (more z) = stopped (Refused Steps) (z .table) u s
-settle u s (done p k) = whole (Node (p .node) (p .table .used) k) (p .table .words) (zeros s)
+settle u s (done p k) = whole (Node (p .node) (p .table .used) (steps k) k) (p .table .words) (zeros s)
 settle u s (stop e t) = stopped (Refused e) t u s
 
 -- node f is to be applied to node n
 abbrev pub begin : List ℕ → ℕ → ℕ → ℕ → State
-begin w u f n = record { table = record { words = w; used = u }; function = f; argument = n; frames = []; steps = 0 }
+begin w u f n = record { table = record { words = w; used = u }; function = f; argument = n; frames = []; uses = noUses }
 
 -- what Apply does on a table that passed 1 and 2, with two nodes in use: "Then 7, 8, 9 as the rules say."
 unfoldable pub applyNodes : List ℕ → ℕ → List ℕ → ℕ → ℕ → ℕ → Outcome Applied

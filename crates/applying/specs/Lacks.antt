@@ -6,6 +6,7 @@ use mathlib.Core.List.{List}
 use mathlib.Core.Option.{none}
 use lib.ListN.{length}
 use lib.Dec.{leb}
+use Rattle.calculus.specs.Uses.{steps}
 use Rattle.table.specs.Nodes.{capacity, cleared}
 use Rattle.table.specs.Outcome.{frames, zeros, atEntry}
 use Rattle.table.specs.Claims.{EntryLacks}
@@ -23,7 +24,7 @@ pub data Lacks (all : ℕ) (z : State) : Refusal → Type 0 where
 -- Where the uses from s on stop: "Before each use: refusal 7 if the step limit is reached; then 8 [..] then 9". Either all `limit` uses were taken
 -- and a further application is left, or fewer were, and the next lacks something.
 pub data Halts (all limit : ℕ) (s : State) : Refusal → Type 0 where
-  limit-reached : {z : State} → uses all limit s ≡ more z → z .steps ≡ limit → Halts all limit s Steps
+  limit-reached : {z : State} → uses all limit s ≡ more z → steps (z .uses) ≡ limit → Halts all limit s Steps
   at-use : {z : State} {j : ℕ} {e : Refusal} → j < limit → uses all j s ≡ more z → Lacks all z e → Halts all limit s e
 
 -- What the checks of Apply find: "1, also for a step limit above 1,000,000. 2. 3 for either number." (Operations, Apply)

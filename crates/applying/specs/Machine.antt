@@ -4,6 +4,8 @@ use mathlib.Core.Bool.{Bool, true, false, cond}
 use mathlib.Core.List.{List, [], _∷_}
 use lib.ListN.{length}
 use lib.Dec.{ltb, eqb}
+use Rattle.calculus.specs.declared.Uses.{Uses}
+use Rattle.calculus.specs.Uses.{oneLeaf, oneStem, oneDrop, oneSpread, oneTriage, _⊕_}
 use Rattle.table.specs.Nodes.{Table, Placed, capacity, first, second, make}
 use Rattle.table.specs.declared.Refusal.{Refusal}
 use Rattle.table.specs.declared.Refusal.the-variants.{Nodes, Frames}
@@ -41,52 +43,61 @@ needsFrame (Drop y) = false
 needsFrame (Spread p y) = true
 needsFrame (Triage p q) = true
 
--- A state of an application: the table, the node applied and its argument, the frames held with the last one first, and the steps so far.
+-- "Each use of a rule tells which of the five it was." ([5])
+unfoldable pub oneUse : Rule → Uses
+oneUse Leaf = oneLeaf
+oneUse (Stem p) = oneStem
+oneUse (Drop y) = oneDrop
+oneUse (Spread p y) = oneSpread
+oneUse (Triage p q) = oneTriage
+
+-- A state of an application: the table, the node applied and its argument, the frames held with the last one first, and the uses so far.
 pub record State : Type 0 where
   pub table : Table
   pub function : ℕ
   pub argument : ℕ
   pub frames : List Frame
-  pub steps : ℕ
+  pub uses : Uses
 
--- What a use leads to: a further application, the outcome's node with the steps, or a stop for what the use lacks.
+-- What a use leads to: a further application, the outcome's node with the uses, or a stop for what the use lacks.
 pub data Turn : Type 0 where
   more : State → Turn
-  done : Placed → ℕ → Turn
+  done : Placed → Uses → Turn
   stop : Refusal → Table → Turn
 
--- The last application gave node v after k steps: what the last frame held takes it on. "Spread holds one frame during its first two
+-- The last application gave node v after the uses k: what the last frame held takes it on. "Spread holds one frame during its first two
 -- applications, triage during its first. The last application of each holds none."
-unfoldable pub resume : Table → List Frame → ℕ → ℕ → Turn
+unfoldable pub resume : Table → List Frame → Uses → ℕ → Turn
 resume t [] k v = done (record { table = t; node = v }) k
-resume t (SpreadFirst p n ∷ fs) k v = more (record { table = t; function = p; argument = n; frames = SpreadSecond v ∷ fs; steps = k })
-resume t (SpreadSecond u ∷ fs) k v = more (record { table = t; function = u; argument = v; frames = fs; steps = k })
-resume t (TriageFirst q ∷ fs) k v = more (record { table = t; function = v; argument = q; frames = fs; steps = k })
+resume t (SpreadFirst p n ∷ fs) k v = more (record { table = t; function = p; argument = n; frames = SpreadSecond v ∷ fs; uses = k })
+resume t (SpreadSecond u ∷ fs) k v = more (record { table = t; function = u; argument = v; frames = fs; uses = k })
+resume t (TriageFirst q ∷ fs) k v = more (record { table = t; function = v; argument = q; frames = fs; uses = k })
 
--- "then 8 if a new node has no place": the outcome is a new node with the words a and b
-unfoldable pub grow : State → ℕ → ℕ → Turn
-grow s a b =
+-- "then 8 if a new node has no place": the outcome is a new node with the words a and b; k are the uses with this one
+unfoldable pub grow : State → Uses → ℕ → ℕ → Turn
+grow s k a b =
     cond (ltb (s .table .used) (capacity (s .table .words)))
-    (resume (make (s .table) a b .table) (s .frames) (s .steps + 1) (make (s .table) a b .node))
+    (resume (make (s .table) a b .table) (s .frames) k (make (s .table) a b .node))
     (stop Nodes (s .table))
 
 -- "then 9 if a frame is needed and all are held": node f is applied to node n, and the frame e is held meanwhile
-unfoldable pub hold : ℕ → State → Frame → ℕ → ℕ → Turn
-hold all s e f n =
+unfoldable pub hold : ℕ → State → Uses → Frame → ℕ → ℕ → Turn
+hold all s k e f n =
     cond (ltb (length (s .frames)) all)
-    (more (record { table = s .table; function = f; argument = n; frames = e ∷ s .frames; steps = s .steps + 1 }))
+    (more (record { table = s .table; function = f; argument = n; frames = e ∷ s .frames; uses = k }))
     (stop Frames (s .table))
 
--- One use of a rule, where `all` frames are lent. "Each use is one step, counted when taken, before the applications under it."
-unfoldable pub useRule : ℕ → State → Rule → Turn
-useRule all s Leaf = grow s (s .argument + 1) 0
-useRule all s (Stem p) = grow s (p + 1) (s .argument + 1)
-useRule all s (Drop y) = resume (s .table) (s .frames) (s .steps + 1) y
-useRule all s (Spread p y) = hold all s (SpreadFirst p (s .argument)) y (s .argument)
-useRule all s (Triage p q) = hold all s (TriageFirst q) (s .argument) p
+-- One use of a rule, where `all` frames are lent; k are the uses with this one.
+unfoldable pub useRule : ℕ → State → Uses → Rule → Turn
+useRule all s k Leaf = grow s k (s .argument + 1) 0
+useRule all s k (Stem p) = grow s k (p + 1) (s .argument + 1)
+useRule all s k (Drop y) = resume (s .table) (s .frames) k y
+useRule all s k (Spread p y) = hold all s k (SpreadFirst p (s .argument)) y (s .argument)
+useRule all s k (Triage p q) = hold all s k (TriageFirst q) (s .argument) p
 
+-- "Each use is one step, counted when taken, before the applications under it."
 unfoldable pub turn : ℕ → State → Turn
-turn all s = useRule all s (rule (s .table .words) (s .function))
+turn all s = let r = rule (s .table .words) (s .function) in useRule all s (s .uses ⊕ oneUse r) r
 
 unfoldable pub after : (State → Turn) → Turn → Turn
 after go (more s) = go s

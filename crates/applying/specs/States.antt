@@ -4,6 +4,7 @@ use mathlib.Core.Path.{_≡_}
 use mathlib.Core.List.{List, [], _∷_}
 use lib.ListN.{length}
 use Rattle.calculus.specs.Tree.{Tree, leaf, stem, fork}
+use Rattle.calculus.specs.Uses.{steps}
 use Rattle.table.specs.Nodes.{Table, Sound, treeAt}
 use Rattle.applying.specs.declared.Rule.{Rule}
 use Rattle.applying.specs.declared.Rule.the-variants.{Leaf, Stem, Drop, Spread, Triage}
@@ -47,6 +48,6 @@ tableOf (stop e t) = t
 
 -- "Each use is one step, counted when taken": the steps of a turn after at most k uses, where `from` were counted before.
 abbrev pub Counted : ℕ → ℕ → Turn → Type 0
-Counted from k (more z) = z .steps ≡ from + k
-Counted from k (done p j) = (from < j) × (j ≤ from + k)
+Counted from k (more z) = steps (z .uses) ≡ from + k
+Counted from k (done p j) = (from < steps j) × (steps j ≤ from + k)
 Counted from k (stop e t) = Unit {0}

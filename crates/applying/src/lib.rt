@@ -1,5 +1,6 @@
 // The five rules on a table, one use at a time, and Apply as a definition, in specs/, and their theorems, in proofs/. Its code is in the crates
 // `frames`, `rules` and `machine`.
+use calculus::Uses;
 use table::Refusal;
 
 // Which of the five rules applying a node takes, with the nodes that the rule names.
@@ -21,12 +22,13 @@ pub enum Frame {
     TriageFirst(usize),
 }
 
-// Apply's answer: the outcome's node, the new count of used nodes, and the uses of the rules.
+// Apply's answer: the outcome's node, the new count of used nodes, the steps, and the uses of each rule.
 pub enum Applied {
     Node {
         node: usize,
         used: usize,
         steps: usize,
+        uses: Uses,
     },
     Refused(Refusal),
 }

@@ -1,9 +1,9 @@
 -- An application that never ends: λx.xx on itself. Assumes nothing.
-use Prim.Native.Nat.{ℕ}
 use mathlib.Core.Path.{_≡_, refl}
 use mathlib.Core.List.{[], _∷_}
 use mathlib.Core.Option.{some}
 use Rattle.calculus.specs.Tree.{Tree, leaf, stem, fork}
+use Rattle.calculus.specs.declared.Uses.{Uses}
 use Rattle.calculus.specs.Rules.{Apply, by-leaf, by-stem, by-drop, by-spread}
 use Rattle.calculus.specs.Term.{app, abs, var}
 use Rattle.calculus.specs.Bytes.{bytes, abstraction, application, argument, parse, whole, rule}
@@ -22,7 +22,7 @@ pub ω-tree : ruleTree (abs (app (var 0) (var 0))) ≡ ω
 unfolding ruleTree translate bracket treeOf grown
 ω-tree = refl
 
--- "212101021010 on itself never ends" (Depot examples): there is no tree and no number of uses. Spread gives ω twice and applies the one to the
+-- "212101021010 on itself never ends" (Depot examples): there is no tree and no count of uses. Spread gives ω twice and applies the one to the
 -- other, so that each such application holds a smaller one.
-pub endless : (r : Tree) (k : ℕ) → Apply ω ω r k → ⊥
+pub endless : (r : Tree) (k : Uses) → Apply ω ω r k → ⊥
 endless r k (by-spread (by-spread by-stem by-leaf by-drop) (by-spread by-stem by-leaf by-drop) a) = endless r _ a

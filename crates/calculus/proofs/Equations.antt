@@ -1,12 +1,12 @@
 -- The five rules follow the equations. Assumes nothing.
-use Prim.Native.Nat.{ℕ}
 use Rattle.calculus.specs.Tree.{Tree}
+use Rattle.calculus.specs.declared.Uses.{Uses}
 use Rattle.calculus.specs.Rules.{Apply, by-leaf, by-stem, by-drop, by-spread, by-triage}
 use Rattle.calculus.specs.Abstraction.{Combination, app, term}
 use Rattle.calculus.specs.Equations.{Equal, same, joined, inside, of-drop, of-spread, of-triage}
 
 -- Where f applied to N gives r, that is so by the equations.
-pub apply-equal : {f N r : Tree} {k : ℕ} → Apply f N r k → Equal (app (term f) (term N)) (term r)
+pub apply-equal : {f N r : Tree} {k : Uses} → Apply f N r k → Equal (app (term f) (term N)) (term r)
 unfolding term
 apply-equal by-leaf = same
 apply-equal by-stem = same

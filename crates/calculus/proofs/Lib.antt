@@ -1,4 +1,5 @@
 -- The theorems of the calculus; other crates cite them.
+pub mod Counts
 pub mod Unique
 pub mod Equations
 pub mod Size

@@ -1,5 +1,6 @@
 -- Trees, rules, terms, abstraction and the two runs. Assumes nothing: these are definitions.
 pub mod Tree
+pub mod Uses
 pub mod Rules
 pub mod Term
 pub mod Bytes

@@ -3,6 +3,7 @@ use Prim.Native.Nat.{ℕ, _+_, _*_, _-_}
 use mathlib.Core.List.{List, [], _∷_, reverse}
 use lib.ListN.{length, getD}
 use Rattle.calculus.specs.Tree.{Tree}
+use Rattle.calculus.specs.Uses.{InSteps}
 use Rattle.calculus.specs.Rules.{Closed, tree, Eval, ApplyAll}
 use Rattle.calculus.specs.Term.{Term, bodyUnder}
 use Rattle.calculus.specs.Abstraction.{Combination, leaf, app, var, translate, ruleTree, leaves, nearest}
@@ -21,12 +22,12 @@ fill ρ (var i) = tree (getD ρ i Tree.leaf)
 -- The direct run (document 01: the planner's run) of a rule on one tree for each of its first parameters: it ends in r after k uses.
 -- The last argument is the nearest parameter's.
 unfoldable pub Direct : Term → List Tree → Tree → ℕ → Type 0
-Direct t args r k = Eval (fill (reverse args) (body (length args) t)) r k
+Direct t args r k = InSteps (Eval (fill (reverse args) (body (length args) t)) r) k
 
 -- The translated run (document 01: the engine's run without limits): "applies the translated rule's tree to the first argument by the five
 -- rules, that outcome to the second, and so on."
 unfoldable pub Translated : Term → List Tree → Tree → ℕ → Type 0
-Translated t args r k = ApplyAll (ruleTree t) args r k
+Translated t args r k = InSteps (ApplyAll (ruleTree t) args r) k
 
 -- L and X of the body under one parameter, and the difference of the two runs' steps, 2L + 5X - 1
 unfoldable pub L : Term → ℕ

@@ -7,7 +7,8 @@ use mathlib.Core.Option.{some}
 use native.Mathlib.Omega.{arith}
 use lib.ListN.{length, length-map}
 use Rattle.calculus.specs.Tree.{Tree}
-use Rattle.calculus.specs.Rules.{Apply, ApplyAll}
+use Rattle.calculus.specs.Uses.{noUses, _⊕_, InSteps}
+use Rattle.calculus.specs.Rules.{ApplyAll}
 use Rattle.calculus.specs.Rules as rules
 use Rattle.calculus.specs.Term.{Term}
 use Rattle.calculus.specs.Bytes.{rule}
@@ -29,8 +30,8 @@ use Rattle.calls.specs.Claim.{ArgumentTrees, of-node, of-read, Claim, Li
 use Rattle.calls.proofs.Tables.{left-goes, left-read, left-translate, left-apply, stays-by}
 
 -- the same trees by another name
-applies-as : {f g r : Tree} {args : List Tree} {k : ℕ} → f ≡ g → ApplyAll f args r k → ApplyAll g args r k
-applies-as {r = r} {args = args} {k = k} e a = subst (λ (x : Tree). ApplyAll x args r k) e a
+applies-as : {f g r : Tree} {args : List Tree} {k : ℕ} → f ≡ g → InSteps (ApplyAll f args r) k → InSteps (ApplyAll g args r) k
+applies-as {r = r} {args = args} {k = k} e a = subst (λ (x : Tree). InSteps (ApplyAll x args r) k) e a
 
 -- one call more
 leftBy-more : (before : List Call) (c : Call) (t : Table) → leftBy (before ++ (c ∷ [])) t ≡ left c (leftBy before t)
@@ -40,20 +41,20 @@ leftBy-more (d ∷ before) c t = leftBy-more before c (left d t)
 
 -- Apply calls one after another, each on the node last given, are applications one after another by the five rules.
 applied-all : {t : Table} {before cs : List Call} {f : ℕ} {args : List Argument} {r : Tree} {k : ℕ} → Sound (leftBy before t) → f < leftBy before t .used
-    → Applied t before cs f args r k → ApplyAll (treeAt (leftBy before t .words) f) (map (argumentTree t) args) r k
+    → Applied t before cs f args r k → InSteps (ApplyAll (treeAt (leftBy before t .words) f) (map (argumentTree t) args) r) k
 unfolding argumentTree
-applied-all s h at-end = rules.at-end
+applied-all s h at-end = record { uses = noUses; gives = rules.at-end; counted = refl }
 applied-all {t = t} {f = f} s h (Applied.other {before = before} {c = c} a) =
     let g = left-goes c (leftBy before t) in
     let e = leftBy-more before c t in
     applies-as (ap (λ (y : Table). treeAt (y .words) f) e ∙ kept-tree s (g .kept) f h)
     (applied-all (rw e (g .sound-too s)) (rw e (omega (arith, g .kept .up))) a)
-applied-all {t = t} s h (applies {before = before} {s = st} {f = f} {n = n} {limit = limit} {v = v} {u = u} {j = j} e a) =
+applied-all {t = t} s h (applies {before = before} {s = st} {f = f} {n = n} {limit = limit} {v = v} {u = u} {j = j} {i = i} e a) =
     let z = leftBy before t in
-    let q = apply-follows (z .words) (z .used) st f n limit v u j e in
+    let q = apply-follows (z .words) (z .used) st f n limit v u j i e in
     let l = leftBy-more before (calls.apply st f n limit) t ∙ left-apply st f n limit z e in
-    rules.and-next (q .applies)
-    (applies-as (ap (λ (y : Table). treeAt (y .words) v) l) (applied-all (rw l (q .fine)) (rw l (q .inside)) a))
+    let x = applies-as (ap (λ (y : Table). treeAt (y .words) v) l) (applied-all (rw l (q .fine)) (rw l (q .inside)) a) in
+    record { uses = i ⊕ x .uses; gives = rules.and-next (q .applies) (x .gives); counted = omega (arith, q .steps-are, x .counted) }
 
 -- a node that a Read gave keeps the tree of its text
 given : {cs : List Call} {t : Table} {v : ℕ} {x : Tree} → Gave cs t v x → treeAt (leftBy cs t .words) v ≡ x
@@ -91,7 +92,7 @@ trees-agree : {t : Table} {before cs : List Call} {f : ℕ} {args : List Argumen
 unfolding argumentTree
 trees-agree at-end xs ArgumentTrees.at-end = refl
 trees-agree (Applied.other a) xs n = trees-agree a xs (rw append-assoc n)
-trees-agree {t = t} (applies {before = before} {s = s} {f = f} {n = n} {limit = limit} {v = v} {u = u} {j = j} {cs = cs} {args = args} e a) xs m =
+trees-agree {t = t} (applies {before = before} {s = s} {f = f} {n = n} {limit = limit} {v = v} {u = u} {j = j} {i = i} {cs = cs} {args = args} e a) xs m =
     go m (λ ys p. trees-agree a ys (rw append-assoc p))
   where
     y : Argument
@@ -103,12 +104,12 @@ trees-agree {t = t} (applies {before = before} {s = s} {f = f} {n = n} {limit = 
     go (of-node {xs = ys} p) next = ap (λ (l : List Tree). argumentTree t y ∷ l) (next ys p)
     go (of-read {xs = ys} g p) next =
         let z = leftBy before t in
-        ap₂ (λ (x : Tree) (l : List Tree). x ∷ l) (sym (gave-tree before _ (apply-follows (z .words) (z .used) s f n limit v u j e .argument-in) g)) (next ys p)
+        ap₂ (λ (x : Tree) (l : List Tree). x ∷ l) (sym (gave-tree before _ (apply-follows (z .words) (z .used) s f n limit v u j i e .argument-in) g)) (next ys p)
 
 -- a run of the five rules on the arguments' trees, by whatever name
 claim : {cs : List Call} {z : Table} {b : List ℕ} {args : List Argument} {r : Tree} {k : ℕ} → (t : Term) → rule b ≡ some t
     → ((xs : List Tree) → ArgumentTrees cs z args xs → xs ≡ map (argumentTree z) args)
-    → ApplyAll (ruleTree t) (map (argumentTree z) args) r k → Claim cs z b args r k
+    → InSteps (ApplyAll (ruleTree t) (map (argumentTree z) args) r) k → Claim cs z b args r k
 unfolding Translated
 claim {cs} {z} {b} {args} {r} {k} t e m a =
     let n : length (map (argumentTree z) args) ≡ length args = length-map args (argumentTree z) in

@@ -5,6 +5,7 @@ use mathlib.Core.List.{List, [], _∷_}
 use native.Mathlib.Omega.{arith}
 use lib.ListN.{length}
 use Rattle.calculus.specs.Tree.{Tree}
+use Rattle.calculus.specs.declared.Uses.{Uses}
 use Rattle.table.specs.Nodes.{Table, Sound, sound}
 use Rattle.table.specs.Refusal.{Numbers, madeNumbers, refusedNumbers}
 use Rattle.table.specs.declared.Refusal.{Refusal}
@@ -66,7 +67,7 @@ pub left-translate : (s b : List ℕ) (t : Table) {v u : ℕ} → translation.tr
 unfolding left madeNumbers
 left-translate s b t e = rw e
 
-pub left-apply : (s : List ℕ) (f n limit : ℕ) (t : Table) {v u j : ℕ} → applying.apply (t .words) (t .used) s f n limit .answer ≡ applied.Node v u j
+pub left-apply : (s : List ℕ) (f n limit : ℕ) (t : Table) {v u j : ℕ} {i : Uses} → applying.apply (t .words) (t .used) s f n limit .answer ≡ applied.Node v u j i
     → left (apply s f n limit) t ≡ record { words = applying.apply (t .words) (t .used) s f n limit .table; used = u }
 unfolding left applying.appliedNumbers
 left-apply s f n limit t e = rw e
@@ -88,8 +89,8 @@ left-goes (apply s f n limit) t = go (applying.apply (t .words) (t .used) s f n 
   where
     go : (a : Answer) → applying.apply (t .words) (t .used) s f n limit .answer ≡ a
         → Goes t (record { words = applying.apply (t .words) (t .used) s f n limit .table; used = applying.appliedNumbers (t .used) a .used })
-    go (applied.Node v u j) e =
-        let q = apply-follows (t .words) (t .used) s f n limit v u j e in
+    go (applied.Node v u j i) e =
+        let q = apply-follows (t .words) (t .used) s f n limit v u j i e in
         record { kept = q .extends .kept; sound-too = λ x. q .fine }
     go (applied.Refused r) e = refused-goes (apply-refused (t .words) (t .used) s f n limit r e)
 

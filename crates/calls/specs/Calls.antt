@@ -5,6 +5,7 @@ use mathlib.Core.Path.{_≡_}
 use mathlib.Core.List.{List, [], _∷_, _++_}
 use mathlib.Core.Option.{some}
 use Rattle.calculus.specs.Tree.{Tree}
+use Rattle.calculus.specs.declared.Uses.{Uses}
 use Rattle.table.specs.Nodes.{Table, treeAt}
 use Rattle.table.specs.Refusal.{madeNumbers}
 use Rattle.table.specs.declared.Made.the-variants as made
@@ -53,8 +54,8 @@ pub data Applied (t : Table) : List Call → List Call → ℕ → List Argument
   other : {before : List Call} {c : Call} {cs : List Call} {f : ℕ} {args : List Argument} {r : Tree} {k : ℕ}
       → Applied t (before ++ (c ∷ [])) cs f args r k
       → Applied t before (c ∷ cs) f args r k
-  applies : {before : List Call} {s : List ℕ} {f n limit v u j : ℕ} {cs : List Call} {args : List Argument} {r : Tree} {k : ℕ}
-      → applying.apply (leftBy before t .words) (leftBy before t .used) s f n limit .answer ≡ applied.Node v u j
+  applies : {before : List Call} {s : List ℕ} {f n limit v u j : ℕ} {i : Uses} {cs : List Call} {args : List Argument} {r : Tree} {k : ℕ}
+      → applying.apply (leftBy before t .words) (leftBy before t .used) s f n limit .answer ≡ applied.Node v u j i
       → Applied t (before ++ (apply s f n limit ∷ [])) cs v args r k
       → Applied t before (apply s f n limit ∷ cs) f (record { before = before; node = n } ∷ args) r (j + k)
 

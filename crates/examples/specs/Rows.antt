@@ -55,7 +55,7 @@ afterMade o (made.Node v u) next = next (o .table) u v
 afterMade o (made.Refused e) next = refused (number e)
 
 unfoldable pub afterApplied : Outcome Applied → Applied → (List ℕ → ℕ → ℕ → ℕ → Line) → Line
-afterApplied o (applied.Node v u k) next = next (o .table) u v k
+afterApplied o (applied.Node v u j k) next = next (o .table) u v j
 afterApplied o (applied.Refused e) next = refused (number e)
 
 -- node v is applied to the nodes in order, with `frames` frames, after k steps; u₀ nodes were in use before

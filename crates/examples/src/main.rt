@@ -38,6 +38,7 @@ fn answer(packet: &[u8]) {
             steps,
             used,
             digits,
+            uses: _,
         } => print(0, steps, used, &out, digits),
         Ran::Refused(refusal) => print(checks::number(refusal), 0, 0, b"-", 1),
     }

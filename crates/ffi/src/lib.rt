@@ -1,9 +1,10 @@
 // The operations for C and Rust, each under a plain name and on plain numbers and slices; include/lazvorn.h declares them. A slice is two C
-// arguments, a pointer and a length. An answer is an array that the caller lends: five numbers, refusal, node, used, steps and digits, or what the
-// operation says.
+// arguments, a pointer and a length. An answer is an array that the caller lends: five numbers, refusal, node, used, steps and digits; of Apply and Run
+// these and the uses of leaf, stem, drop, spread and triage; or what the operation says.
 // The definitions are in specs/.
 ghost use mathlib.Core.Path.{_≡_};
 ghost use mathlib.Core.List.{[]};
+ghost use Rattle.calculus.specs.Uses.{noUses};
 ghost use Rattle.table.specs.Refusal.{refusedNumbers, madeNumbers};
 ghost use Rattle.table.specs.Outcome.{whole, wholeOut};
 ghost use Rattle.ternary.specs.Read as reading;
@@ -13,8 +14,9 @@ ghost use Rattle.applying.specs.Apply as applying;
 ghost use Rattle.label.specs.Label as labelling;
 ghost use Rattle.running.specs.Run as running;
 ghost use Rattle.grammar.specs.Outcome as grammar;
-ghost use Rattle.ffi.specs.Boundary.{listed, numbered, answered};
+ghost use Rattle.ffi.specs.Boundary.{listed, listedUses, numbered, answered, counted};
 use applying::Applied;
+use calculus::Uses;
 use grammar::Encoded;
 use running::Ran;
 use table::Made;
@@ -27,6 +29,14 @@ fn refused(used: usize, refusal: Refusal) -> [usize; 5]
 {
     let n = checks::number(refusal);
     [n, 0, used, 0, 0]
+}
+
+// The same for Apply and Run: no uses are told.
+fn refused_uses(used: usize, refusal: Refusal) -> [usize; 10]
+    ensures { λ r. ⌜ r ≡ listedUses (refusedNumbers used refusal) noUses ⌝ }
+{
+    let n = checks::number(refusal);
+    [n, 0, used, 0, 0, 0, 0, 0, 0, 0]
 }
 
 // The numbers of the answer of Read, Translate and Label.
@@ -49,31 +59,51 @@ fn written(used: usize, answer: Written) -> [usize; 5]
     }
 }
 
+// The ten numbers of an answer of Apply or Run that is no refusal.
+fn completed(node: usize, used: usize, steps: usize, digits: usize, uses: Uses) -> [usize; 10]
+    ensures { λ r. ⌜ r ≡ listedUses (record { refusal = 0; node = node; used = used; steps = steps; digits = digits }) uses ⌝ }
+{
+    [
+        0,
+        node,
+        used,
+        steps,
+        digits,
+        uses.leaf,
+        uses.stem,
+        uses.drop,
+        uses.spread,
+        uses.triage,
+    ]
+}
+
 // The numbers of Apply's answer.
-fn applied(used: usize, answer: Applied) -> [usize; 5]
-    ensures { λ r. ⌜ r ≡ listed (applying.appliedNumbers used answer) ⌝ }
+fn applied(used: usize, answer: Applied) -> [usize; 10]
+    ensures { λ r. ⌜ r ≡ listedUses (applying.appliedNumbers used answer) (applying.appliedUses answer) ⌝ }
 {
     match answer {
         Applied::Node {
             node,
             used: grown,
             steps,
-        } => [0, node, grown, steps, 0],
-        Applied::Refused(refusal) => refused(used, refusal),
+            uses,
+        } => completed(node, grown, steps, 0, uses),
+        Applied::Refused(refusal) => refused_uses(used, refusal),
     }
 }
 
 // The numbers of Run's answer.
-fn ran(answer: Ran) -> [usize; 5]
-    ensures { λ r. ⌜ r ≡ listed (running.ranNumbers answer) ⌝ }
+fn ran(answer: Ran) -> [usize; 10]
+    ensures { λ r. ⌜ r ≡ listedUses (running.ranNumbers answer) (running.ranUses answer) ⌝ }
 {
     match answer {
         Ran::Text {
             steps,
             used,
             digits,
-        } => [0, 0, used, steps, digits],
-        Ran::Refused(refusal) => refused(0, refusal),
+            uses,
+        } => completed(0, used, steps, digits, uses),
+        Ran::Refused(refusal) => refused_uses(0, refusal),
     }
 }
 
@@ -126,7 +156,7 @@ pub extern "C" fn lazvorn_translate(
     *answer = made(used, translated);
 }
 
-// Applies one node to another in at most `limit` steps.
+// Applies one node to another in at most `limit` steps. The answer is ten numbers.
 #[no_mangle]
 pub extern "C" fn lazvorn_apply(
     table: &mut [u32],
@@ -135,10 +165,10 @@ pub extern "C" fn lazvorn_apply(
     function: usize,
     argument: usize,
     limit: usize,
-    answer: &mut [usize; 5],
+    answer: &mut [usize; 10],
 )
     ensures { λ _. ⌜ whole (now (answer .exit)) (now (table .exit)) (now (stack .exit))
-        ≡ numbered (applying.appliedNumbers used) (applying.apply (now (table .entry)) used (now (stack .entry)) function argument limit) ⌝ }
+        ≡ counted (applying.appliedNumbers used) applying.appliedUses (applying.apply (now (table .entry)) used (now (stack .entry)) function argument limit) ⌝ }
 {
     let outcome = machine::apply(table, used, stack, function, argument, limit);
     *answer = applied(used, outcome);
@@ -160,17 +190,17 @@ pub extern "C" fn lazvorn_label(
     *answer = made(used, labelled);
 }
 
-// Runs a packet with the table taken as empty.
+// Runs a packet with the table taken as empty. The answer is ten numbers.
 #[no_mangle]
 pub extern "C" fn lazvorn_run(
     table: &mut [u32],
     stack: &mut [u32],
     out: &mut [u8],
     packet: &[u8],
-    answer: &mut [usize; 5],
+    answer: &mut [usize; 10],
 )
     ensures { λ _. ⌜ wholeOut (now (answer .exit)) (now (table .exit)) (now (stack .exit)) (now (out .exit))
-        ≡ numbered running.ranNumbers (running.run (now (table .entry)) (now (stack .entry)) (now (out .entry)) (now (packet .entry))) ⌝ }
+        ≡ counted running.ranNumbers running.ranUses (running.run (now (table .entry)) (now (stack .entry)) (now (out .entry)) (now (packet .entry))) ⌝ }
 {
     let result = run::run(table, stack, out, packet);
     *answer = ran(result);

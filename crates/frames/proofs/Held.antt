@@ -5,6 +5,7 @@ use mathlib.Core.List.{List, _∷_}
 use native.Mathlib.Omega.{arith}
 use lib.ListN.{length}
 use borrow.Author.Tests.{lt-ltb, le-ltb}
+use Rattle.calculus.specs.declared.Uses.{Uses}
 use Rattle.table.specs.Outcome.{frames}
 use Rattle.table.specs.declared.Refusal.the-variants.{Frames}
 use Rattle.applying.specs.declared.Frame.{Frame}
@@ -16,7 +17,7 @@ use Rattle.frames.specs.Code.{frameAt, pushed, framesOf, stateOf, turnOf
 use Rattle.frames.proofs.Frames.{frames-pushed, frames-last, length-frames}
 
 -- node v goes to the last frame
-module _ (s w : List ℕ) (u d k v : ℕ) where
+module _ (s w : List ℕ) (u d : ℕ) (k : Uses) (v : ℕ) where
   pub none-left : d ≡ 0 → done (record { table = record { words = w; used = u }; node = v }) k ≡ resume (record { words = w; used = u }) (framesOf s d) k v
   unfolding framesOf resume
   none-left e = rw e
@@ -41,14 +42,14 @@ module _ (s w : List ℕ) (u d k v : ℕ) where
   triage-left a x h e q = rw (q, frames-last s d h, e)
 
 -- a frame is free or not
-module _ (m : Machine) (w s : List ℕ) (e : Frame) (f n : ℕ) where
-  pub hold-full : frames s ≤ m .held → stop Frames (record { words = w; used = m .used }) ≡ hold (frames s) (stateOf m w s) e f n
+module _ (m : Machine) (k : Uses) (w s : List ℕ) (e : Frame) (f n : ℕ) where
+  pub hold-full : frames s ≤ m .held → stop Frames (record { words = w; used = m .used }) ≡ hold (frames s) (stateOf m w s) k e f n
   unfolding hold
   hold-full h = rw (length-frames s (m .held), le-ltb (m .held) (frames s) h)
 
   pub hold-free : (z : List ℕ) (x : Turned) → m .held < frames s → z ≡ pushed s (m .held) e
-      → x ≡ moreOf (m .used) f n (m .held + 1) (m .steps + 1)
-      → turnOf x w z ≡ hold (frames s) (stateOf m w s) e f n
+      → x ≡ moreOf (m .used) f n (m .held + 1) k
+      → turnOf x w z ≡ hold (frames s) (stateOf m w s) k e f n
   unfolding hold
   hold-free z x h r q =
       rw (length-frames s (m .held), lt-ltb (m .held) (frames s) h, q, r, frames-pushed s (m .held) e (omega arith))

@@ -4,6 +4,8 @@ use mathlib.Core.Bool.{cond}
 use mathlib.Core.List.{List, [], _∷_}
 use lib.ListN.{getD, set}
 use lib.Dec.{eqb}
+use Rattle.calculus.specs.declared.Uses.{Uses}
+use Rattle.calculus.specs.Uses.{counts}
 use Rattle.table.specs.declared.Refusal.the-variants.{Nodes, Frames}
 use Rattle.applying.specs.declared.Frame.{Frame}
 use Rattle.applying.specs.declared.Frame.the-variants.{SpreadFirst, SpreadSecond, TriageFirst}
@@ -31,6 +33,10 @@ unfoldable pub framesOf : List ℕ → ℕ → List Frame
 framesOf s zero = []
 framesOf s (suc d) = frameAt s d ∷ framesOf s d
 
+-- the counts that the code's state has
+abbrev pub usesOf : Machine → Uses
+usesOf m = counts (m .leaf) (m .stem) (m .drop) (m .spread) (m .triage)
+
 -- the state that the code's numbers and the lent words say
 abbrev pub stateOf : Machine → List ℕ → List ℕ → State
 stateOf m w s =
@@ -39,13 +45,13 @@ stateOf m w s =
       function = m .function;
       argument = m .argument;
       frames = framesOf s (m .held);
-      steps = m .steps;
+      uses = usesOf m;
     }
 
 -- what a use led to
 abbrev pub endOf : End → Machine → List ℕ → List ℕ → Turn
 endOf ended.More m w s = more (stateOf m w s)
-endOf ended.Done m w s = done (record { table = record { words = w; used = m .used }; node = m .function }) (m .steps)
+endOf ended.Done m w s = done (record { table = record { words = w; used = m .used }; node = m .function }) (usesOf m)
 endOf ended.Nodes m w s = stop Nodes (record { words = w; used = m .used })
 endOf ended.Frames m w s = stop Frames (record { words = w; used = m .used })
 
@@ -53,6 +59,19 @@ abbrev pub turnOf : Turned → List ℕ → List ℕ → Turn
 turnOf r w s = endOf (r .end) (r .state) w s
 
 -- a further application, of the node f to the node n
-abbrev pub moreOf : ℕ → ℕ → ℕ → ℕ → ℕ → Turned
-moreOf used f n held steps =
-    record { state = record { used = used; function = f; argument = n; held = held; steps = steps }; end = ended.More }
+abbrev pub moreOf : ℕ → ℕ → ℕ → ℕ → Uses → Turned
+moreOf used f n held k =
+    record {
+      state = record {
+        used = used;
+        function = f;
+        argument = n;
+        held = held;
+        leaf = k .leaf;
+        stem = k .stem;
+        drop = k .drop;
+        spread = k .spread;
+        triage = k .triage;
+      };
+      end = ended.More;
+    }

@@ -1,6 +1,7 @@
 // The frames of an application in a lent stack's words, and what an application's state becomes when a frame is written or taken. The definitions
 // are in the crate `applying`; specs/ says what the code's own values mean in their terms.
 use applying::Frame;
+use calculus::Uses;
 ghost use mathlib.Core.Path.{_≡_};
 ghost use mathlib.Core.List.{List};
 ghost use Prim.Native.Nat.{ℕ, _+_, _*_, _≤_, _<_};
@@ -10,14 +11,19 @@ ghost use Rattle.applying.specs.Machine.{resume, hold};
 ghost use Rattle.applying.specs.States.{FrameIn};
 ghost use Rattle.frames.specs.Code.{frameAt, pushed, framesOf, stateOf, turnOf, moreOf};
 
-// A state of an application: the node applied and its argument, how many frames are held, and the steps so far. The nodes and the frames
-// themselves lie in the lent words. Where the application is done, `function` is the outcome's node.
+// A state of an application: the node applied and its argument, how many frames are held, and the uses so far. The nodes and the frames
+// themselves lie in the lent words. Where the application is done, `function` is the outcome's node. The counts are fields of their own, since the
+// compiler keeps such fields in registers, and a struct within the struct in memory.
 pub struct Machine {
     pub used: usize,
     pub function: usize,
     pub argument: usize,
     pub held: usize,
-    pub steps: usize,
+    pub leaf: usize,
+    pub stem: usize,
+    pub drop: usize,
+    pub spread: usize,
+    pub triage: usize,
 }
 
 // What a use led to: a further application, the outcome, or a stop for want of a node or a frame.
@@ -74,8 +80,8 @@ fn top(stack: &[u32], at: usize) -> Frame
 }
 
 // A further application: `function` to `argument`.
-fn more(used: usize, function: usize, argument: usize, held: usize, steps: usize) -> Turned
-    ensures { λ r. ⌜ r ≡ moreOf used function argument held steps ⌝ }
+fn more(used: usize, function: usize, argument: usize, held: usize, uses: Uses) -> Turned
+    ensures { λ r. ⌜ r ≡ moreOf used function argument held uses ⌝ }
 {
     Turned {
         state: Machine {
@@ -83,16 +89,20 @@ fn more(used: usize, function: usize, argument: usize, held: usize, steps: usize
             function: function,
             argument: argument,
             held: held,
-            steps: steps,
+            leaf: uses.leaf,
+            stem: uses.stem,
+            drop: uses.drop,
+            spread: uses.spread,
+            triage: uses.triage,
         },
         end: End::More,
     }
 }
 
 // The last application gave node v: what the last frame held takes it on.
-pub fn resume(stack: &mut [u32], used: usize, held: usize, steps: usize, v: usize) -> Turned
+pub fn resume(stack: &mut [u32], used: usize, held: usize, uses: Uses, v: usize) -> Turned
     requires { ⌜ (held * 3 ≤ length (now stack)) × (v < 4294967296) ⌝ }
-    ensures { λ r. ⌜ ((w : List ℕ) → turnOf r w (now (stack .exit)) ≡ resume (record { words = w; used = used }) (framesOf (now (stack .entry)) held) steps v) ⌝ }
+    ensures { λ r. ⌜ ((w : List ℕ) → turnOf r w (now (stack .exit)) ≡ resume (record { words = w; used = used }) (framesOf (now (stack .entry)) held) uses v) ⌝ }
 {
     if held == 0 {
         return Turned {
@@ -101,7 +111,11 @@ pub fn resume(stack: &mut [u32], used: usize, held: usize, steps: usize, v: usiz
                 function: v,
                 argument: v,
                 held: 0,
-                steps: steps,
+                leaf: uses.leaf,
+                stem: uses.stem,
+                drop: uses.drop,
+                spread: uses.spread,
+                triage: uses.triage,
             },
             end: End::Done,
         };
@@ -111,17 +125,24 @@ pub fn resume(stack: &mut [u32], used: usize, held: usize, steps: usize, v: usiz
     match frame {
         Frame::SpreadFirst(p, n) => {
             push(stack, at, Frame::SpreadSecond(v));
-            more(used, p, n, held, steps)
+            more(used, p, n, held, uses)
         }
-        Frame::SpreadSecond(u) => more(used, u, v, at, steps),
-        Frame::TriageFirst(q) => more(used, v, q, at, steps),
+        Frame::SpreadSecond(u) => more(used, u, v, at, uses),
+        Frame::TriageFirst(q) => more(used, v, q, at, uses),
     }
 }
 
-// Node f is applied to node n, and the frame is held meanwhile, if one is free.
-pub fn hold(stack: &mut [u32], state: Machine, frame: Frame, f: usize, n: usize) -> Turned
-    requires { ⌜ (state .held * 3 ≤ length (now stack)) × (state .steps < 1000000) × FrameIn 4294967296 frame ⌝ }
-    ensures { λ r. ⌜ ((w : List ℕ) → turnOf r w (now (stack .exit)) ≡ hold (frames (now (stack .entry))) (stateOf state w (now (stack .entry))) frame f n) ⌝ }
+// Node f is applied to node n, and the frame is held meanwhile, if one is free. The uses are those with this one.
+pub fn hold(
+    stack: &mut [u32],
+    state: Machine,
+    uses: Uses,
+    frame: Frame,
+    f: usize,
+    n: usize,
+) -> Turned
+    requires { ⌜ (state .held * 3 ≤ length (now stack)) × FrameIn 4294967296 frame ⌝ }
+    ensures { λ r. ⌜ ((w : List ℕ) → turnOf r w (now (stack .exit)) ≡ hold (frames (now (stack .entry))) (stateOf state w (now (stack .entry))) uses frame f n) ⌝ }
 {
     let held = state.held;
     if stack.len() / 3 <= held {
@@ -131,5 +152,5 @@ pub fn hold(stack: &mut [u32], state: Machine, frame: Frame, f: usize, n: usize)
         };
     }
     push(stack, held, frame);
-    more(state.used, f, n, held + 1, state.steps + 1)
+    more(state.used, f, n, held + 1, uses)
 }

@@ -5,6 +5,8 @@ use mathlib.Core.Bool.{true}
 use mathlib.Core.List.{List, []}
 use mathlib.Core.Option.{none}
 use Rattle.calculus.specs.Tree.{Tree}
+use Rattle.calculus.specs.declared.Uses.{Uses}
+use Rattle.calculus.specs.Uses.{counts, _⊕_}
 use Rattle.calculus.specs.Rules.{Apply}
 use Rattle.table.specs.Nodes.{capacity, treeAt}
 use Rattle.table.specs.Outcome.{atEntry}
@@ -28,11 +30,15 @@ pub record Labels (w : List ℕ) (u f t v u′ : ℕ) : Type 0 where
   pub places : Places (record { words = w; used = u }) (record { table = record { words = label w u f t .table; used = u′ }; node = v }) (labelled (treeAt w f) (treeAt w t))
   pub used-is : u′ ≡ u + 7
 
--- What follows from a labelled tree that gave r on N in k steps: the rule gave r, and the label gave some tree.
-pub record Both (f t N r : Tree) (k : ℕ) : Type 0 where
+-- The uses that a label adds to those of the rule and of the label: five steps.
+abbrev pub labelUses : Uses
+labelUses = counts 0 1 2 2 0
+
+-- What follows from a labelled tree that gave r on N with the uses k: the rule gave r, and the label gave some tree.
+pub record Both (f t N r : Tree) (k : Uses) : Type 0 where
   pub label : Tree
-  pub a : ℕ
-  pub b : ℕ
+  pub a : Uses
+  pub b : Uses
   pub rule-gives : Apply f N r a
   pub label-gives : Apply t N label b
-  pub steps : k ≡ a + b + 5
+  pub uses : k ≡ a ⊕ b ⊕ labelUses

@@ -2,6 +2,7 @@
 use Prim.Native.Nat.{ℕ, zero, suc, _+_, _-_, _≤_, _<_}
 use mathlib.Core.Path.{_≡_, sym, _∙_, subst}
 use native.Mathlib.Omega.{arith}
+use Rattle.calculus.specs.Uses.{steps}
 use Rattle.applying.specs.Machine.{State, Turn, more, turn, after, uses}
 use Rattle.applying.specs.States.{Good}
 use Rattle.applying.proofs.States.{Later, turn-later, Counted, turn-steps}
@@ -14,7 +15,7 @@ uses-turn all (suc k) s h = let q : suc k - 1 ≡ k = omega arith in rw q
 -- A run of at most `budget` uses from `begun`, at the state s after `taken` of them: what is left of the budget leads to what all of it does.
 pub record Going (all : ℕ) (begun : State) (budget : ℕ) (s : State) (taken : ℕ) : Type 0 where
   pub within : taken ≤ budget
-  pub counted : s .steps ≡ begun .steps + taken
+  pub counted : steps (s .uses) ≡ steps (begun .uses) + taken
   pub good : Good all s
   pub leads : uses all (budget - taken) s ≡ uses all budget begun
 
@@ -29,7 +30,7 @@ module _ {all : ℕ} {begun : State} {budget : ℕ} {s : State} {taken : ℕ} (r
   unfolding after
   going-on z h e =
       let l : Later all (s .table) (more z) = subst (Later all (s .table)) (sym e) (turn-later (r .good)) in
-      let c : Counted (s .steps) 1 (more z) = subst (Counted (s .steps) 1) (sym e) (turn-steps all s) in
+      let c : Counted (steps (s .uses)) 1 (more z) = subst (Counted (steps (s .uses)) 1) (sym e) (turn-steps all s) in
       let q : budget - (taken + 1) ≡ budget - taken - 1 = omega arith in
       record {
         within = omega arith;

@@ -6,6 +6,7 @@ use native.Mathlib.Omega.{arith}
 use lib.ListN.{length}
 use lib.Dec.{leb}
 use borrow.Author.Tests.{lt-ltb, le-ltb, leb-true}
+use Rattle.calculus.specs.Uses.{steps}
 use Rattle.table.specs.Nodes.{Sound, cleared}
 use Rattle.table.specs.Outcome.{Entered, Outcome, whole, frames, zeros, atEntry, stopped}
 use Rattle.checks.specs.Code.{refusalOf}
@@ -14,7 +15,7 @@ use Rattle.checks.specs.declared.Checked.the-variants as check
 use Rattle.table.specs.declared.Refusal.{Refusal}
 use Rattle.table.specs.declared.Refusal.the-variants.{Steps, Nodes, Frames}
 use Rattle.table.specs.declared.Refusal.the-variants as refusal
-use Rattle.table.proofs.Words.{cleared-all}
+use Rattle.table.proofs.Words.{zero-one, cleared-all}
 use Rattle.table.proofs.Entry.{entered, enters, check-refuses}
 use Rattle.applying.specs.declared.Applied.{Applied}
 use Rattle.applying.specs.declared.Applied.the-variants.{Node, Refused}
@@ -23,8 +24,8 @@ use Rattle.frames.specs.declared.End.the-variants as ended
 use Rattle.frames.specs.declared.Turned.{Turned}
 use Rattle.applying.specs.Machine.{Turn, more, done, stop, uses}
 use Rattle.applying.specs.Apply.{settle, begin, applyNodes, apply}
-use Rattle.frames.specs.Code.{endOf, turnOf}
-use Rattle.applying.proofs.States.{Later, uses-later}
+use Rattle.frames.specs.Code.{usesOf, endOf, turnOf}
+use Rattle.applying.proofs.States.{Later, uses-later, Counted, uses-steps}
 use Rattle.applying.proofs.Cases.{sound-begin, entered-apply}
 
 -- Where an application ends: y and z are the words of table and stack that it leaves.
@@ -32,9 +33,10 @@ module _ (u : ℕ) (w s y z : List ℕ) (x : Turned) (a : Applied) (stack : z �
   all-zeros : z ≡ zeros s
   all-zeros = stack ∙ cleared-all s
 
-  pub settle-done : x .end ≡ ended.Done → a ≡ Node (x .state .function) (x .state .used) (x .state .steps) → whole a w z ≡ settle u s (turnOf x w s)
+  pub settle-done : {j : ℕ} → j ≡ steps (usesOf (x .state)) → x .end ≡ ended.Done → a ≡ Node (x .state .function) (x .state .used) j (usesOf (x .state))
+      → whole a w z ≡ settle u s (turnOf x w s)
   unfolding settle
-  settle-done e r = rw (e, r, all-zeros)
+  settle-done l e r = rw (e, r, l, all-zeros)
 
   module _ (nodes : y ≡ cleared w (u * 2) (x .state .used * 2)) where
     undone : (e : Refusal) → a ≡ Refused e → whole a y z ≡ stopped (Refused e) (record { words = w; used = x .state .used }) u s
@@ -63,10 +65,18 @@ same-zeros u z s l (stop e t) = rw l
 -- An application on a sound table with two nodes in use, by its uses: y and z are the words of table and stack after them.
 module _ {w : List ℕ} {u : ℕ} (s : List ℕ) {f n : ℕ} (fine : Sound (record { words = w; used = u })) (function-in : f < u) (argument-in : n < u)
     (limit : ℕ) (t : Turned) (y z : List ℕ) (used : turnOf t y z ≡ uses (frames s) limit (begin w u f n)) where
-  -- no node is lost, and those in use lie in the table
-  pub used-in : (u ≤ t .state .used) × (t .state .used * 2 ≤ length y)
-  used-in = go (t .end) (subst (Later (frames s) (begin w u f n .table)) (sym used) (uses-later limit (sound-begin fine function-in argument-in)))
+  -- no node is lost, those in use lie in the table, and the uses are within the limit
+  pub used-in : limit ≤ 1000000 → (u ≤ t .state .used) × (t .state .used * 2 ≤ length y) × (t .end ≡ ended.Done → steps (usesOf (t .state)) ≤ 1000000)
+  used-in h =
+      let l = go (t .end) (subst (Later (frames s) (begin w u f n .table)) (sym used) (uses-later limit (sound-begin fine function-in argument-in))) in
+      (l .0, l .1, λ e. counted (t .end) e (subst (Counted 0 limit) (sym used) (uses-steps (frames s) limit (begin w u f n))))
     where
+      counted : (e : End) → e ≡ ended.Done → Counted 0 limit (endOf e (t .state) y z) → steps (usesOf (t .state)) ≤ 1000000
+      counted ended.More q c = zero-one (cc)
+      counted ended.Done q c = omega (arith, c .1)
+      counted ended.Nodes q c = zero-one (cc)
+      counted ended.Frames q c = zero-one (cc)
+
       go : (e : End) → Later (frames s) (begin w u f n .table) (endOf e (t .state) y z) → (u ≤ t .state .used) × (t .state .used * 2 ≤ length y)
       go ended.More l = (l .extends .kept .up, omega (arith, l .fine .within))
       go ended.Done l = (l .extends .kept .up, omega (arith, l .fine .within))

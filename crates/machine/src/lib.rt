@@ -1,6 +1,7 @@
 // Apply: uses of the five rules up to a limit, and how they end. The definitions and the laws that callers cite are in the crate `applying`; one
 // use is in the crate `rules`.
 use applying::Applied;
+use calculus::Uses;
 use checks::Checked;
 use frames::End;
 use frames::Machine;
@@ -9,16 +10,17 @@ use table::Refusal;
 ghost use mathlib.Core.Path.{_≡_};
 ghost use Prim.Native.Nat.{_+_, _*_, _≤_, _<_};
 ghost use lib.ListN.{length};
+ghost use Rattle.calculus.specs.Uses.{steps};
 ghost use Rattle.table.specs.Nodes.{Sound, cleared};
 ghost use Rattle.table.specs.Outcome.{whole, frames};
 ghost use Rattle.applying.specs.Machine.{uses};
 ghost use Rattle.applying.specs.Apply.{settle, applyNodes, apply};
 ghost use Rattle.applying.specs.States.{Good};
-ghost use Rattle.frames.specs.Code.{stateOf, turnOf};
+ghost use Rattle.frames.specs.Code.{usesOf, stateOf, turnOf};
 
 // At most `budget` uses of the rules; a further application is left where all of them were taken.
 fn uses(table: &mut [u32], stack: &mut [u32], begun: Machine, budget: usize) -> Turned
-    requires { ⌜ Good (frames (now stack)) (stateOf begun (now table) (now stack)) × (begun .steps + budget ≤ 1000000) ⌝ }
+    requires { ⌜ Good (frames (now stack)) (stateOf begun (now table) (now stack)) × (steps (usesOf begun) + budget ≤ 1000000) ⌝ }
     ensures { λ r. ⌜ turnOf r (now (table .exit)) (now (stack .exit)) ≡ uses (frames (now (stack .entry))) budget (stateOf begun (now (table .entry)) (now (stack .entry))) ⌝ }
 {
     let mut state = begun;
@@ -49,19 +51,27 @@ fn undo(table: &mut [u32], used: usize, used_now: usize, refusal: Refusal) -> Ap
 
 // The answer where an application ends that had `used` nodes in use at entry. The stack is cleared, and after a refusal the new nodes too.
 fn settle(table: &mut [u32], stack: &mut [u32], used: usize, turned: Turned) -> Applied
-    requires { ⌜ (used ≤ turned .state .used) × (turned .state .used * 2 ≤ length (now table)) ⌝ }
+    requires { ⌜ (used ≤ turned .state .used) × (turned .state .used * 2 ≤ length (now table)) × (turned .end ≡ End.Done → steps (usesOf (turned .state)) ≤ 1000000) ⌝ }
     ensures { λ r. ⌜ whole r (now (table .exit)) (now (stack .exit)) ≡ settle used (now (stack .entry)) (turnOf turned (now (table .entry)) (now (stack .entry))) ⌝ }
 {
     let len = stack.len();
     nodes::clear(stack, 0, len);
     let end = turned.end;
     let state = turned.state;
+    let uses = Uses {
+        leaf: state.leaf,
+        stem: state.stem,
+        drop: state.drop,
+        spread: state.spread,
+        triage: state.triage,
+    };
     match end {
         End::More => undo(table, used, state.used, Refusal::Steps),
         End::Done => Applied::Node {
             node: state.function,
             used: state.used,
-            steps: state.steps,
+            steps: counts::sum(uses),
+            uses: uses,
         },
         End::Nodes => undo(table, used, state.used, Refusal::Nodes),
         End::Frames => undo(table, used, state.used, Refusal::Frames),
@@ -85,7 +95,11 @@ pub fn apply_nodes(
         function: function,
         argument: argument,
         held: 0,
-        steps: 0,
+        leaf: 0,
+        stem: 0,
+        drop: 0,
+        spread: 0,
+        triage: 0,
     };
     let turned = uses(table, stack, begun, limit);
     settle(table, stack, used, turned)

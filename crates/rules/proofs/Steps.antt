@@ -5,6 +5,9 @@ use mathlib.Core.List.{List}
 use native.Mathlib.Omega.{arith}
 use lib.ListN.{length}
 use borrow.Author.Tests.{lt-ltb, le-ltb}
+use Rattle.calculus.specs.declared.Uses.{Uses}
+use Rattle.calculus.specs.Uses.{counts, _⊕_}
+use Rattle.calculus.proofs.Counts.{same-uses}
 use Rattle.table.specs.Nodes.{capacity, first, make}
 use Rattle.table.specs.Outcome.{frames}
 use Rattle.table.specs.declared.Refusal.the-variants.{Nodes}
@@ -13,23 +16,23 @@ use Rattle.nodes.specs.Code.{placedBy}
 use Rattle.nodes.specs.declared.NewNode.{NewNode}
 use Rattle.applying.specs.declared.Rule.{Rule}
 use Rattle.applying.specs.declared.Rule.the-variants.{Leaf, Stem, Drop, Spread, Triage}
-use Rattle.applying.specs.Machine.{rule, State, Turn, stop, resume, grow, useRule, turn}
+use Rattle.applying.specs.Machine.{rule, oneUse, Turn, stop, resume, grow, useRule, turn}
 use Rattle.applying.specs.States.{Good}
 use Rattle.applying.proofs.States.{RuleIn, rule-in}
 use Rattle.frames.specs.declared.Machine.{Machine}
-use Rattle.frames.specs.Code.{framesOf, stateOf}
+use Rattle.frames.specs.Code.{framesOf, usesOf, stateOf}
 use Rattle.frames.proofs.Frames.{length-frames}
 
 -- a place for a node is free or not
-module _ (m : Machine) (w s : List ℕ) (a b : ℕ) where
-  pub grow-full : capacity w ≤ m .used → stop Nodes (record { words = w; used = m .used }) ≡ grow (stateOf m w s) a b
+module _ (m : Machine) (k : Uses) (w s : List ℕ) (a b : ℕ) where
+  pub grow-full : capacity w ≤ m .used → stop Nodes (record { words = w; used = m .used }) ≡ grow (stateOf m w s) k a b
   unfolding grow
   grow-full h = rw (le-ltb (m .used) (capacity w) h)
 
   pub grow-free : (n : NewNode) (z : List ℕ) (x : Turn) → m .used < capacity w
       → placedBy n z ≡ make (record { words = w; used = m .used }) a b
-      → x ≡ resume (record { words = z; used = n .used }) (framesOf s (m .held)) (m .steps + 1) (n .node)
-      → x ≡ grow (stateOf m w s) a b
+      → x ≡ resume (record { words = z; used = n .used }) (framesOf s (m .held)) k (n .node)
+      → x ≡ grow (stateOf m w s) k a b
   unfolding grow
   grow-free n z x h e r = rw (lt-ltb (m .used) (capacity w) h, ← e) r
 
@@ -63,7 +66,24 @@ asks m w s g r e =
     named-up (Spread p y) h i = (omega (arith, i .0), omega (arith, i .1))
     named-up (Triage p q) h i = (omega (arith, i .0), omega (arith, i .1))
 
--- the rule that is wanted is used
-pub by-rule : (all : ℕ) (s : State) (x : Turn) (r : Rule) → rule (s .table .words) (s .function) ≡ r → x ≡ useRule all s r → x ≡ turn all s
+-- the counts with one use more of a rule
+abbrev pub counting : Machine → Rule → Uses
+counting m Leaf = counts (m .leaf + 1) (m .stem) (m .drop) (m .spread) (m .triage)
+counting m (Stem p) = counts (m .leaf) (m .stem + 1) (m .drop) (m .spread) (m .triage)
+counting m (Drop y) = counts (m .leaf) (m .stem) (m .drop + 1) (m .spread) (m .triage)
+counting m (Spread p y) = counts (m .leaf) (m .stem) (m .drop) (m .spread + 1) (m .triage)
+counting m (Triage p q) = counts (m .leaf) (m .stem) (m .drop) (m .spread) (m .triage + 1)
+
+counting-is : (m : Machine) (r : Rule) → counting m r ≡ usesOf m ⊕ oneUse r
+unfolding oneUse
+counting-is m Leaf = same-uses (omega arith) (omega arith) (omega arith) (omega arith) (omega arith)
+counting-is m (Stem p) = same-uses (omega arith) (omega arith) (omega arith) (omega arith) (omega arith)
+counting-is m (Drop y) = same-uses (omega arith) (omega arith) (omega arith) (omega arith) (omega arith)
+counting-is m (Spread p y) = same-uses (omega arith) (omega arith) (omega arith) (omega arith) (omega arith)
+counting-is m (Triage p q) = same-uses (omega arith) (omega arith) (omega arith) (omega arith) (omega arith)
+
+-- the rule that is wanted is used, and its use is counted
+pub by-rule : (all : ℕ) (m : Machine) (w s : List ℕ) (x : Turn) (r : Rule) → rule w (m .function) ≡ r → x ≡ useRule all (stateOf m w s) (counting m r) r
+    → x ≡ turn all (stateOf m w s)
 unfolding turn
-by-rule all s x r e q = rw e q
+by-rule all m w s x r e q = rw (e, ← counting-is m r) q

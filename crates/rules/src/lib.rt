@@ -2,17 +2,19 @@
 // those of the crate `frames`.
 use applying::Frame;
 use applying::Rule;
+use calculus::Uses;
 use frames::End;
 use frames::Machine;
 use frames::Turned;
 ghost use mathlib.Core.Path.{_≡_};
 ghost use Prim.Native.Nat.{_+_, _-_, _*_, _≤_, _<_};
 ghost use lib.ListN.{length};
+ghost use Rattle.calculus.specs.Uses.{steps};
 ghost use Rattle.table.specs.Nodes.{first};
 ghost use Rattle.table.specs.Outcome.{frames};
 ghost use Rattle.applying.specs.Machine.{forkRule, rule, grow, turn};
 ghost use Rattle.applying.specs.States.{Good};
-ghost use Rattle.frames.specs.Code.{stateOf, turnOf};
+ghost use Rattle.frames.specs.Code.{usesOf, stateOf, turnOf};
 
 // The rule for a fork with the branches x and y.
 fn fork_rule(table: &[u32], x: usize, y: usize) -> Rule
@@ -46,10 +48,17 @@ fn wanted(table: &[u32], function: usize) -> Rule
     fork_rule(table, a - 1, b - 1)
 }
 
-// The outcome is a new node with the words a and b, if it has a place.
-fn grow(table: &mut [u32], stack: &mut [u32], state: Machine, a: usize, b: usize) -> Turned
-    requires { ⌜ (length (now table) ≤ 131072) × (state .held * 3 ≤ length (now stack)) × (state .steps < 1000000) × (a < 4294967296) × (b < 4294967296) ⌝ }
-    ensures { λ r. ⌜ turnOf r (now (table .exit)) (now (stack .exit)) ≡ grow (stateOf state (now (table .entry)) (now (stack .entry))) a b ⌝ }
+// The outcome is a new node with the words a and b, if it has a place. The uses are those with this one.
+fn grow(
+    table: &mut [u32],
+    stack: &mut [u32],
+    state: Machine,
+    uses: Uses,
+    a: usize,
+    b: usize,
+) -> Turned
+    requires { ⌜ (length (now table) ≤ 131072) × (state .held * 3 ≤ length (now stack)) × (a < 4294967296) × (b < 4294967296) ⌝ }
+    ensures { λ r. ⌜ turnOf r (now (table .exit)) (now (stack .exit)) ≡ grow (stateOf state (now (table .entry)) (now (stack .entry))) uses a b ⌝ }
 {
     let used = state.used;
     if table.len() / 2 <= used {
@@ -59,21 +68,43 @@ fn grow(table: &mut [u32], stack: &mut [u32], state: Machine, a: usize, b: usize
         };
     }
     let made = nodes::new_node(table, used, a, b);
-    frames::resume(stack, made.used, state.held, state.steps + 1, made.node)
+    frames::resume(stack, made.used, state.held, uses, made.node)
 }
 
 // One use of a rule.
 pub fn turn(table: &mut [u32], stack: &mut [u32], state: Machine) -> Turned
-    requires { ⌜ Good (frames (now stack)) (stateOf state (now table) (now stack)) × (state .steps < 1000000) ⌝ }
+    requires { ⌜ Good (frames (now stack)) (stateOf state (now table) (now stack)) × (steps (usesOf state) < 1000000) ⌝ }
     ensures { λ r. ⌜ turnOf r (now (table .exit)) (now (stack .exit)) ≡ turn (frames (now (stack .entry))) (stateOf state (now (table .entry)) (now (stack .entry))) ⌝ }
 {
     let n = state.argument;
+    let mut uses = Uses {
+        leaf: state.leaf,
+        stem: state.stem,
+        drop: state.drop,
+        spread: state.spread,
+        triage: state.triage,
+    };
     let rule = wanted(table, state.function);
     match rule {
-        Rule::Leaf => grow(table, stack, state, n + 1, 0),
-        Rule::Stem(p) => grow(table, stack, state, p + 1, n + 1),
-        Rule::Drop(y) => frames::resume(stack, state.used, state.held, state.steps + 1, y),
-        Rule::Spread(p, y) => frames::hold(stack, state, Frame::SpreadFirst(p, n), y, n),
-        Rule::Triage(p, q) => frames::hold(stack, state, Frame::TriageFirst(q), n, p),
+        Rule::Leaf => {
+            uses.leaf += 1;
+            grow(table, stack, state, uses, n + 1, 0)
+        }
+        Rule::Stem(p) => {
+            uses.stem += 1;
+            grow(table, stack, state, uses, p + 1, n + 1)
+        }
+        Rule::Drop(y) => {
+            uses.drop += 1;
+            frames::resume(stack, state.used, state.held, uses, y)
+        }
+        Rule::Spread(p, y) => {
+            uses.spread += 1;
+            frames::hold(stack, state, uses, Frame::SpreadFirst(p, n), y, n)
+        }
+        Rule::Triage(p, q) => {
+            uses.triage += 1;
+            frames::hold(stack, state, uses, Frame::TriageFirst(q), n, p)
+        }
     }
 }

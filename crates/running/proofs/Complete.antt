@@ -6,6 +6,8 @@ use mathlib.Core.Logic.{inl, inr}
 use native.Mathlib.Omega.{arith}
 use Rattle.table.specs.Outcome.{Outcome}
 use Rattle.calculus.specs.Tree.{Tree}
+use Rattle.calculus.specs.declared.Uses.{Uses}
+use Rattle.calculus.specs.Uses.{steps, InSteps}
 use Rattle.calculus.specs.Rules.{ApplyAll}
 use Rattle.calculus.specs.Term.{Term}
 use Rattle.calculus.specs.Abstraction.{ruleTree}
@@ -23,8 +25,8 @@ use Rattle.running.proofs.Refused.{stops-by}
 
 module _ {w s o l : List ℕ} {p : Packet} {t : Term} {args : List Tree} (c : Checked w s o l p t args) where
   -- "Apply in order under one step limit, Write, each with its 7 to 10.": where the translated run ends in r within the packet's limit, Run writes the text
-  -- of r in as many steps, or its nodes, frames or out bytes are too few.
-  pub run-complete : {r : Tree} {k : ℕ} → ApplyAll (ruleTree t) args r k → k ≤ p .limit → Writes w s o l r k
+  -- of r with the same uses, or its nodes, frames or out bytes are too few.
+  pub run-complete : {r : Tree} {k : Uses} → ApplyAll (ruleTree t) args r k → steps k ≤ p .limit → Writes w s o l r k
   run-complete {r} {k} d h = go (run-checked c)
     where
       go : Staged w s o p t args (run w s o l) → Writes w s o l r k
@@ -36,6 +38,8 @@ module _ {w s o l : List ℕ} {p : Packet} {t : Term} {args : List Tree} (c : Ch
 -- "the steps that Apply returned are the planner's plus 2L + 5X − 1": where the direct run of a rule on one argument ends in r and the packet's limit has
 -- room for its steps and the difference, Run writes the text of r, or its nodes, frames or out bytes are too few.
 pub run-one : {w s o l : List ℕ} {p : Packet} {t : Term} {a : Tree} → Checked w s o l p t (a ∷ []) → (r : Tree) (j : ℕ) → Direct t (a ∷ []) r j → j + difference t ≤ p .limit
-    → Writes w s o l r (j + difference t)
+    → InSteps (Writes w s o l r) (j + difference t)
 unfolding Translated
-run-one {p = p} {t = t} {a = a} c r j d h = run-complete c (one-argument (rule-exact (p .rule) t .0 (c .is-rule)) a r .0 j d) h
+run-one {p = p} {t = t} {a = a} c r j d h =
+    let x = one-argument (rule-exact (p .rule) t .0 (c .is-rule)) a r .0 j d in
+    record { uses = x .uses; gives = run-complete c (x .gives) (omega (arith, x .counted)); counted = x .counted }

@@ -8,12 +8,13 @@ use lib.ListN.{length, drop}
 use lib.Seq.{take-at}
 use Rattle.table.specs.Outcome.{Outcome}
 use Rattle.calculus.specs.Tree.{Tree}
+use Rattle.calculus.specs.declared.Uses.{Uses}
+use Rattle.calculus.specs.Uses.{steps, InSteps}
 use Rattle.calculus.specs.Rules.{ApplyAll}
 use Rattle.calculus.specs.Term.{Term}
 use Rattle.calculus.specs.Bytes.{rule}
 use Rattle.calculus.specs.Abstraction.{ruleTree}
 use Rattle.calculus.specs.Runs.{Translated}
-use Rattle.calculus.proofs.Unique.{newNodesAll-unique}
 use Rattle.calculus.proofs.Rule.{rule-leads}
 use Rattle.calculus.proofs.Demand3.{demand-3}
 use Rattle.ternary.specs.Text.{text, treeOf}
@@ -21,7 +22,7 @@ use Rattle.ternary.specs.Read.{readable}
 use Rattle.table.proofs.Words.{zero-one}
 use Rattle.ternary.proofs.Reading.{readable-some}
 use Rattle.fields.specs.Packet.{Packet}
-use Rattle.running.specs.Run.{run, ranNumbers}
+use Rattle.running.specs.Run.{run, ranNumbers, ranUses}
 use Rattle.running.specs.Claims.{Checked, Completes}
 use Rattle.running.specs.declared.Ran.{Ran}
 use Rattle.running.specs.declared.Ran.the-variants.{Text}
@@ -36,29 +37,33 @@ trees-of [] (x ∷ xs) e = zero-one (cc)
 trees-of (l ∷ ls) [] e = zero-one (cc)
 trees-of (l ∷ ls) (x ∷ xs) e = let h = readable-some l x (cc) .tree-of in let t = trees-of ls xs (cc) in cc
 
-module _ (w s o l : List ℕ) (k u n : ℕ) where
+module _ (w s o l : List ℕ) (m u n : ℕ) (k : Uses) where
   -- "Run a packet": where Run writes a text, with one argument or more it is that of the tree that the direct run of the packet's rule on its arguments
   -- ends in; with one argument the steps are the direct run's plus 2L + 5X − 1.
-  pub run-direct : run w s o l .answer ≡ Text k u n → Completes w s o l k u n
-  unfolding Translated ranNumbers
+  pub run-direct : run w s o l .answer ≡ Text m u n k → Completes w s o l m u n k
+  unfolding Translated ranNumbers ranUses
   run-direct q = go (checks w s o l)
     where
-      of-stages : {p : Packet} {t : Term} {args : List Tree} → Checked w s o l p t args → Staged w s o p t args (run w s o l) → Completes w s o l k u n
+      of-stages : {p : Packet} {t : Term} {args : List Tree} → Checked w s o l p t args → Staged w s o p t args (run w s o l) → Completes w s o l m u n k
       of-stages c (stops h b e) = zero-one (cc)
       of-stages {p} {t} {args} c (ends {r = r} {k = j} {z = z} h e) =
           let a : j ≡ k = cc in
+          let i : m ≡ steps k = rw (← a) (cc) in
           let b : z .used ≡ u = cc in
           let d : n ≡ length (text r) = cc in
           let words : run w s o l .table ≡ z .words = cc in
           let out : run w s o l .out ≡ text r ++ drop n o = rw d (ap (λ (x : Outcome Ran). x .out) e) in
           let x : ApplyAll (ruleTree t) args r k = rw (← a) (h .translated) in
-          let i = c .is-rule in
+          let y : InSteps (ApplyAll (ruleTree t) args r) m = record { uses = k; gives = x; counted = sym i } in
+          let rules = c .is-rule in
           record {
             numbers = rw q;
+            counts = rw q;
+            steps-are = i;
             sent = p;
             is-packet = c .is-packet;
             term = t;
-            is-rule = i;
+            is-rule = rules;
             args = args;
             arguments-are = trees-of (p .arguments) args (c .are-texts);
             tree = r;
@@ -66,16 +71,16 @@ module _ (w s o l : List ℕ) (k u n : ℕ) where
             written = rw out (take-at (text r) (drop n o) n (sym d));
             out-is = out;
             translated = x;
-            within-limit = omega (arith, h .within-limit);
-            direct = λ low high. demand-3 (p .rule) t i args low high r .0 .0 (k, x);
-            steps = λ one j y. demand-3 (p .rule) t i args (omega arith) (omega (arith, rule-leads (p .rule) i)) r .1 k j one x y;
-            used-is = omega (arith, h .used-is, newNodesAll-unique refl (h .translated) x);
+            within-limit = omega (arith, h .within-limit, ap steps a);
+            direct = λ low high. demand-3 (p .rule) t rules args low high r .0 .0 (m, y);
+            steps = λ one j d. demand-3 (p .rule) t rules args (omega arith) (omega (arith, rule-leads (p .rule) rules)) r .1 m j one y d;
+            used-is = rw (← a) (omega (arith, h .used-is));
             stack = cc;
             same-length = ap length words ∙ h .extends .kept .same-length;
             beyond = λ i l. rw words (h .extends .beyond i (omega arith));
             fine = rw (words, ← b) (h .fine);
           }
 
-      go : Checks w s o l → Completes w s o l k u n
+      go : Checks w s o l → Completes w s o l m u n k
       go (fails r) = zero-one (cc (refuses-with r))
       go (passes c) = of-stages c (run-checked c)

@@ -5,7 +5,9 @@ use mathlib.Core.List.{List, [], _∷_, map}
 use mathlib.Core.Option.{some}
 use native.Mathlib.Omega.{arith}
 use Rattle.calculus.specs.Tree.{Tree}
-use Rattle.calculus.specs.Rules.{ApplyAll, at-end, newNodesAll}
+use Rattle.calculus.specs.declared.Uses.{Uses}
+use Rattle.calculus.specs.Uses.{noUses, steps, newNodes}
+use Rattle.calculus.specs.Rules.{ApplyAll, at-end}
 use Rattle.calculus.specs.Term.{Term}
 use Rattle.calculus.specs.Bytes.{rule}
 use Rattle.calculus.specs.Abstraction.{ruleTree}
@@ -18,19 +20,18 @@ use Rattle.running.specs.declared.Ran.the-variants.{Text}
 use Rattle.running.proofs.Direct.{run-direct}
 
 -- nothing applied to is nothing applied
-none-applied : {f r : Tree} {k : ℕ} (d : ApplyAll f [] r k) → (r ≡ f) × (k ≡ 0) × (newNodesAll d ≡ 0)
-unfolding newNodesAll
-none-applied at-end = (refl, refl, refl)
+none-applied : {f r : Tree} {k : Uses} → ApplyAll f [] r k → (r ≡ f) × (k ≡ noUses)
+none-applied at-end = (refl, refl)
 
 -- "then none to eight of tag 2, an argument's text" (The packet): with none of them, the text is that of the translated rule, in no step. "Rule 02 03 00
 -- without arguments prints 0 0 5 21010." (Depot examples)
-pub run-empty : (w s o l : List ℕ) (k u n : ℕ) (p : Packet) (t : Term) → packet l ≡ some p → p .arguments ≡ [] → rule (p .rule) ≡ some t → run w s o l .answer ≡ Text k u n
-    → Bare w s o l t k u n
+pub run-empty : (w s o l : List ℕ) (j u n : ℕ) (k : Uses) (p : Packet) (t : Term) → packet l ≡ some p → p .arguments ≡ [] → rule (p .rule) ≡ some t
+    → run w s o l .answer ≡ Text j u n k → Bare w s o l t j u n k
 unfolding total
-run-empty w s o l k u n p t e a q h = go (x .args) (ap (map treeOf) (sym (ap (λ (y : Packet). y .arguments) sent ∙ a)) ∙ x .arguments-are) (x .translated) (x .used-is)
+run-empty w s o l j u n k p t e a q h = go (x .args) (ap (map treeOf) (sym (ap (λ (y : Packet). y .arguments) sent ∙ a)) ∙ x .arguments-are) (x .translated)
   where
-    x : Completes w s o l k u n
-    x = run-direct w s o l k u n h
+    x : Completes w s o l j u n k
+    x = run-direct w s o l j u n k h
 
     sent : x .sent ≡ p
     sent = cc (x .is-packet)
@@ -41,15 +42,15 @@ run-empty w s o l k u n p t e a q h = go (x .args) (ap (map treeOf) (sym (ap (λ
     none : total (x .sent .arguments) ≡ 0
     none = rw (sent, a)
 
-    go : (args : List Tree) → map treeOf [] ≡ map some args → (d : ApplyAll (ruleTree (x .term)) args (x .tree) k) → u ≡ nodesBy (x .sent) (x .term) d
-        → Bare w s o l t k u n
-    go [] i d c =
+    go : (args : List Tree) → map treeOf [] ≡ map some args → ApplyAll (ruleTree (x .term)) args (x .tree) k → Bare w s o l t j u n k
+    go [] i d =
         let y = none-applied d in
         let r : x .tree ≡ ruleTree t = y .0 ∙ ap ruleTree same in
         record {
-          steps-none = y .1;
-          used-is = rw (← same) (omega (arith, y .2, none));
+          steps-none = omega (arith, x .steps-are, ap steps (y .1));
+          uses-none = y .1;
+          used-is = rw (← same) (omega (arith, x .used-is, ap newNodes (y .1), none));
           digits-are = rw (← r) (x .digits-are);
           out-is = rw (← r) (x .out-is);
         }
-    go (y ∷ ys) i d c = zero-one (cc)
+    go (y ∷ ys) i d = zero-one (cc)

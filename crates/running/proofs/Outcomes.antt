@@ -4,6 +4,8 @@ use mathlib.Core.Path.{_≡_}
 use mathlib.Core.List.{List, _++_}
 use lib.ListN.{length, drop}
 use Rattle.calculus.specs.Tree.{Tree}
+use Rattle.calculus.specs.declared.Uses.{Uses}
+use Rattle.calculus.specs.Uses.{steps}
 use Rattle.calculus.specs.Rules.{ApplyAll}
 use Rattle.calculus.specs.Term.{Term}
 use Rattle.calculus.specs.Abstraction.{ruleTree}
@@ -17,17 +19,17 @@ use Rattle.running.specs.Claims.{nodesBy, Stops}
 use Rattle.running.specs.declared.Ran.{Ran}
 use Rattle.running.specs.declared.Ran.the-variants.{Text, Refused}
 
--- What the stages had where the text of r is written, after k steps and with the table z.
-pub record Ends (w o : List ℕ) (p : Packet) (t : Term) (args : List Tree) (r : Tree) (k : ℕ) (z : Table) : Type 0 where
+-- What the stages had where the text of r is written, after the uses k and with the table z.
+pub record Ends (w o : List ℕ) (p : Packet) (t : Term) (args : List Tree) (r : Tree) (k : Uses) (z : Table) : Type 0 where
   pub translated : ApplyAll (ruleTree t) args r k
-  pub within-limit : k ≤ p .limit
+  pub within-limit : steps k ≤ p .limit
   pub fine : Sound z
   pub extends : Extends (record { words = w; used = 0 }) z
-  pub used-is : z .used ≡ nodesBy p t translated
+  pub used-is : z .used ≡ nodesBy p t k
   pub room : length (text r) ≤ length o
 
 -- the two kinds of the stages' outcome x
 pub data Staged (w s o : List ℕ) (p : Packet) (t : Term) (args : List Tree) (x : Outcome Ran) : Type 0 where
   stops : {e : Refusal} {m : ℕ} → Stops w s o p t args e m → m ≤ capacity w → x ≡ wholeOut (Refused e) (cleared w 0 (m * 2)) (zeros s) o → Staged w s o p t args x
-  ends : {r : Tree} {k : ℕ} {z : Table} → Ends w o p t args r k z
-      → x ≡ wholeOut (Text k (z .used) (length (text r))) (z .words) (zeros s) (text r ++ drop (length (text r)) o) → Staged w s o p t args x
+  ends : {r : Tree} {k : Uses} {z : Table} → Ends w o p t args r k z
+      → x ≡ wholeOut (Text (steps k) (z .used) (length (text r)) k) (z .words) (zeros s) (text r ++ drop (length (text r)) o) → Staged w s o p t args x

@@ -7,6 +7,7 @@ use mathlib.Core.Logic.{_↔_}
 use mathlib.Core.Option.{none}
 use Rattle.calculus.specs.Tree.{Tree}
 use Rattle.calculus.specs.Term.{Term}
+use Rattle.calculus.specs.Uses.{noUses}
 use Rattle.table.specs.Outcome.{Outcome}
 use Rattle.table.specs.Refusal.{number, refusedNumbers, clears}
 use Rattle.table.specs.declared.Refusal.{Refusal}
@@ -18,7 +19,7 @@ use Rattle.ternary.specs.Held.{Spent, no-out, no-frame}
 use Rattle.applying.specs.Machine.{State}
 use Rattle.applying.specs.Lacks.{Lacks, no-place, all-held, Halts, limit-reached, at-use}
 use Rattle.fields.specs.Packet.{Packet, packet}
-use Rattle.running.specs.Run.{run, ranNumbers}
+use Rattle.running.specs.Run.{run, ranNumbers, ranUses}
 use Rattle.running.specs.Claims.{Fit, Checked, ReadStops, no-nodes, no-frames, later, ApplyStops, Stops, translate-nodes, translate-frames, in-read, in-apply, in-write, Refuses, too-long, no-packet, no-rule, no-text, stops, Undid, BadRule, BadText}
 use Rattle.running.specs.declared.Ran.{Ran}
 use Rattle.running.specs.declared.Ran.the-variants.{Refused}
@@ -139,6 +140,11 @@ module _ (w s o l : List ℕ) where
       → ranNumbers (run w s o l .answer) ≡ record { refusal = number e; node = 0; used = 0; steps = 0; digits = 0 }
   unfolding ranNumbers refusedNumbers
   refused-numbers e q = rw q
+
+  -- "all 0 on refusal" ([5])
+  pub refused-counts : (e : Refusal) → run w s o l .answer ≡ Refused e → ranUses (run w s o l .answer) ≡ noUses
+  unfolding ranUses
+  refused-counts e q = rw q
 
   -- "1: lengths only."
   pub run-limits : (run w s o l .answer ≡ Refused Limits) ↔ (Fit w s o → ⊥)

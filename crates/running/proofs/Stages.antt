@@ -8,11 +8,14 @@ use native.Mathlib.Omega.{arith}
 use lib.ListN.{length, length-replicate}
 use borrow.Author.Tests.{le-leb}
 use Rattle.calculus.specs.Tree.{Tree, size}
-use Rattle.calculus.specs.Rules.{Apply, ApplyAll, at-end, and-next, newNodes, newNodesAll}
+use Rattle.calculus.specs.declared.Uses.{Uses}
+use Rattle.calculus.specs.Uses.{noUses, _⊕_, steps, newNodes}
+use Rattle.calculus.specs.Rules.{Apply, ApplyAll, at-end, and-next}
+use Rattle.calculus.proofs.Counts.{uses-none, none-uses, uses-assoc}
 use Rattle.calculus.specs.Term.{Term}
 use Rattle.calculus.specs.Bytes.{rule}
 use Rattle.calculus.specs.Abstraction.{ruleTree}
-use Rattle.calculus.proofs.Unique.{apply-unique, newNodes-unique, newNodesAll-unique}
+use Rattle.calculus.proofs.Unique.{apply-unique}
 use Rattle.table.specs.Nodes.{Table, Placed, capacity, sound, Sound, treeAt, lay}
 use Rattle.table.specs.Outcome.{Entered, Outcome, frames, zeros, placed, laid}
 use Rattle.table.specs.declared.Refusal.{Refusal}
@@ -67,23 +70,18 @@ zeros-length : (y s : List ℕ) → y ≡ zeros s → length y ≡ length s
 zeros-length y s e = ap length e ∙ length-replicate (length s) 0
 
 -- one application more
-apply-further : {f g h N : Tree} {Ns : List Tree} {a b : ℕ} → ApplyAll f Ns g a → Apply g N h b → ApplyAll f (Ns ++ (N ∷ [])) h (a + b)
-apply-further at-end x = subst (ApplyAll _ _ _) (omega arith) (and-next x at-end)
-apply-further (and-next y z) x = subst (ApplyAll _ _ _) (omega arith) (and-next y (apply-further z x))
-
-further-new : {f g h N : Tree} {Ns : List Tree} {a b : ℕ} (x : ApplyAll f Ns g a) (y : Apply g N h b) → newNodesAll (apply-further x y) ≡ newNodesAll x + newNodes y
-unfolding newNodesAll
-further-new at-end x = newNodesAll-unique refl (apply-further at-end x) (and-next x at-end) ∙ omega arith
-further-new (and-next y z) x = newNodesAll-unique refl (apply-further (and-next y z) x) (and-next y (apply-further z x)) ∙ omega (arith, further-new z x)
+apply-further : {f g h N : Tree} {Ns : List Tree} {a b : Uses} → ApplyAll f Ns g a → Apply g N h b → ApplyAll f (Ns ++ (N ∷ [])) h (a ⊕ b)
+apply-further {b = b} at-end x = subst (ApplyAll _ _ _) (uses-none b ∙ sym (none-uses b)) (and-next x at-end)
+apply-further {b = b} (and-next {a = i} {b = j} y z) x = subst (ApplyAll _ _ _) (sym (uses-assoc i j b)) (and-next y (apply-further z x))
 
 -- the applications before one that does not end in time take their steps first
-in-time : {f g N r : Tree} {before : List Tree} (after : List Tree) {a j : ℕ} (limit : ℕ) → ApplyAll f before g a → a ≤ limit
-    → ((h : Tree) (b : ℕ) → Apply g N h b → limit - a < b) → ApplyAll f (before ++ (N ∷ after)) r j → limit < j
+in-time : {f g N r : Tree} {before : List Tree} (after : List Tree) {a j : Uses} (limit : ℕ) → ApplyAll f before g a → steps a ≤ limit
+    → ((h : Tree) (b : Uses) → Apply g N h b → limit - steps a < steps b) → ApplyAll f (before ++ (N ∷ after)) r j → limit < steps j
 in-time after limit at-end l n (and-next x y) = omega (arith, n _ _ x)
 in-time after limit (and-next {a = a} x y) l n (and-next p q) =
     let i = apply-unique x p in
-    let h = in-time after (limit - a) y (omega arith) (λ h b z. omega (arith, n h b z)) (rw (← i .0) at q) in
-    omega (arith, i .1)
+    let h = in-time after (limit - steps a) y (omega arith) (λ h b z. omega (arith, n h b z)) (rw (← i .0) at q) in
+    omega (arith, ap steps (i .1))
 
 -- the table and the node of a tree that was laid out
 laid-place : (w : List ℕ) (u : ℕ) (s : List ℕ) (x : Tree) {q : Rattle.table.specs.Outcome.Outcome Made} {v u′ : ℕ} → q ≡ laid w u s x → q .answer ≡ made.Node v u′
@@ -96,15 +94,15 @@ laid-place w u s x {q} {v} {u′} e h =
     let c : q .table ≡ m .table .words = cc in
     rw (← a, ← b, c)
 
--- Run applies: the trees before were applied to in k steps, node v has their outcome, and the nodes ns are still to be applied to.
-record Applying (w s : List ℕ) (p : Packet) (t : Term) (args : List Tree) (z : Table) (y : List ℕ) (v k : ℕ) (before : List Tree) (ns : List ℕ) : Type 0 where
+-- Run applies: the trees before were applied to with the uses k, node v has their outcome, and the nodes ns are still to be applied to.
+record Applying (w s : List ℕ) (p : Packet) (t : Term) (args : List Tree) (z : Table) (y : List ℕ) (v : ℕ) (k : Uses) (before : List Tree) (ns : List ℕ) : Type 0 where
   stands : Stands w s z y
   tree : Tree
   root : Has z v tree
   so-far : ApplyAll (ruleTree t) before tree k
-  within-limit : k ≤ p .limit
-  used-is : z .used ≡ nodesBy p t so-far
-  all-made : z .used + madeAll (frames s) (p .limit - k) z v ns ≡ nodesMade w s p t args
+  within-limit : steps k ≤ p .limit
+  used-is : z .used ≡ nodesBy p t k
+  all-made : z .used + madeAll (frames s) (p .limit - steps k) z v ns ≡ nodesMade w s p t args
   translated : TranslateHad w s t
   read-all : ReadsHad w s (size (ruleTree t)) (p .arguments)
 
@@ -120,7 +118,7 @@ module _ {w s o : List ℕ} (fit : Fit w s o) (p : Packet) (t : Term) (args : Li
       let c = back-cleared (st .extends) b in
       stops q (omega (arith, b .within, st .extends .kept .same-length)) (rw (c, l))
 
-  writes-staged : {z : Table} {y : List ℕ} {v k : ℕ} → Applying w s p t args z y v k args [] → Staged w s o p t args (writes (z .words) (z .used) y o v k)
+  writes-staged : {z : Table} {y : List ℕ} {v : ℕ} {k : Uses} → Applying w s p t args z y v k args [] → Staged w s o p t args (writes (z .words) (z .used) y o v k)
   unfolding writes afterWritten madeAll
   writes-staged {z} {y} {v} {k} a = go (write-case (z .words) (z .used) y v o)
     where
@@ -153,47 +151,45 @@ module _ {w s o : List ℕ} (fit : Fit w s o) (p : Packet) (t : Term) (args : Li
           }) refl)
 
   module _ (limited : p .limit ≤ 1000000) where
-    applies-staged : (ns : List ℕ) {after : List Tree} {z : Table} {y : List ℕ} {v k : ℕ} {before : List Tree} → HasAll z ns after → Applying w s p t args z y v k before ns
+    applies-staged : (ns : List ℕ) {after : List Tree} {z : Table} {y : List ℕ} {v : ℕ} {k : Uses} {before : List Tree} → HasAll z ns after → Applying w s p t args z y v k before ns
         → args ≡ before ++ after → Staged w s o p t args (applies ns (p .limit) (z .words) (z .used) y o v k)
     unfolding applies afterApplied
     applies-staged [] {z = z} {y = y} {v = v} {k = k} {before = before} no-more a m =
         writes-staged (subst (λ (b : List Tree). Applying w s p t args z y v k b []) (sym (m ∙ append-nil before)) a)
     applies-staged (n ∷ ns) {z = z} {y = y} {v = v} {k = k} {before = before} (and-then {x = x} {xs = xs} h hs) a m = go (r .answer) refl
-        (λ (z : Table) (y : List ℕ) (v k : ℕ) (before : List Tree). applies-staged ns {after = xs} {z = z} {y = y} {v = v} {k = k} {before = before})
+        (λ (z : Table) (y : List ℕ) (v : ℕ) (k : Uses) (before : List Tree). applies-staged ns {after = xs} {z = z} {y = y} {v = v} {k = k} {before = before})
       where
         st : Stands w s z y
         st = a .stands
 
         r : Rattle.table.specs.Outcome.Outcome Applied
-        r = apply (z .words) (z .used) y v n (p .limit - k)
+        r = apply (z .words) (z .used) y v n (p .limit - steps k)
 
         go : (b : Applied) → r .answer ≡ b
-            → ((z : Table) (y : List ℕ) (v k : ℕ) (before : List Tree) → HasAll z ns xs → Applying w s p t args z y v k before ns → args ≡ before ++ xs
+            → ((z : Table) (y : List ℕ) (v : ℕ) (k : Uses) (before : List Tree) → HasAll z ns xs → Applying w s p t args z y v k before ns → args ≡ before ++ xs
             → Staged w s o p t args (applies ns (p .limit) (z .words) (z .used) y o v k))
-            → Staged w s o p t args (afterApplied (z .used) o r (λ w′ u′ s′ v′ j. applies ns (p .limit) w′ u′ s′ o v′ (k + j)) b)
-        go (applied.Node v′ u′ j) e on =
-            let q = apply-follows (z .words) (z .used) y v n (p .limit - k) v′ u′ j e in
+            → Staged w s o p t args (afterApplied (z .used) o r (λ w′ u′ s′ v′ j. applies ns (p .limit) w′ u′ s′ o v′ (k ⊕ j)) b)
+        go (applied.Node v′ u′ i j) e on =
+            let q = apply-follows (z .words) (z .used) y v n (p .limit - steps k) v′ u′ i j e in
             let d : Apply (a .tree) x (treeAt (r .table) v′) j = rw (a .root .tree, h .tree) at (q .applies) in
-            let less : p .limit - (k + j) ≡ p .limit - k - j = omega arith in
-            on (record { words = r .table; used = u′ }) (r .stack) v′ (k + j) (before ++ (x ∷ [])) (all-stay (st .fine) (q .extends .kept) hs)
+            let less : p .limit - steps (k ⊕ j) ≡ p .limit - steps k - steps j = omega arith in
+            on (record { words = r .table; used = u′ }) (r .stack) v′ (k ⊕ j) (before ++ (x ∷ [])) (all-stay (st .fine) (q .extends .kept) hs)
             (record {
               stands = record { fine = q .fine; extends = extends-trans (st .extends) (q .extends); stack = zeros-length _ y (q .stack) ∙ st .stack };
               tree = treeAt (r .table) v′;
               root = record { inside = q .inside; tree = refl };
               so-far = apply-further (a .so-far) d;
-              within-limit = omega (arith, q .within-limit, a .within-limit);
-              used-is = omega (arith, q .used-is, a .used-is, newNodes-unique (a .root .tree) (h .tree) (q .applies) d, further-new (a .so-far) d);
-              all-made = rw less (sym (all-on (frames s) (p .limit - k) z v n ns (rw (st .stack) at (q .ends))) ∙ a .all-made);
+              within-limit = omega (arith, q .within-limit, q .steps-are, a .within-limit);
+              used-is = omega (arith, q .used-is, a .used-is);
+              all-made = rw less (sym (all-on (frames s) (p .limit - steps k) z v n ns (rw (st .stack) at (q .ends))) ∙ a .all-made);
               translated = a .translated;
               read-all = a .read-all;
             })
             (m ∙ sym (append-assoc before (x ∷ []) xs))
         go (applied.Refused e) q on =
-            let f = enter st (le-leb (p .limit - k) 1000000 (omega arith)) in
-            let b = apply-halts (z .words) (z .used) y v n (p .limit - k) e f (a .root .inside) (h .inside) q in
-            let c = all-stop (z .words) (z .used) y v n (p .limit - k) e f (a .root .inside) (h .inside) q ns in
-            let d : ApplyAll (ruleTree t) before (treeAt (z .words) v) k = rw (a .root .tree) (a .so-far) in
-            let i : z .used ≡ nodesBy p t d = omega (arith, a .used-is, newNodesAll-unique refl (a .so-far) d) in
+            let f = enter st (le-leb (p .limit - steps k) 1000000 (omega arith)) in
+            let b = apply-halts (z .words) (z .used) y v n (p .limit - steps k) e f (a .root .inside) (h .inside) q in
+            let c = all-stop (z .words) (z .used) y v n (p .limit - steps k) e f (a .root .inside) (h .inside) q ns in
             let x : ApplyStops w s p t args e =
             record {
               before = before;
@@ -208,16 +204,16 @@ module _ {w s o : List ℕ} (fit : Fit w s o) (p : Packet) (t : Term) (args : Li
               function-in = a .root .inside;
               argument-in = h .inside;
               arguments-are = rw (h .tree) m;
-              so-far = d;
+              so-far = rw (a .root .tree) (a .so-far);
               within-limit = a .within-limit;
-              used-is = i;
+              used-is = a .used-is;
               halts = rw (← st .stack) (b .halts);
               no-tree = λ c d. in-time xs (p .limit) (a .so-far) (a .within-limit)
-                  (λ g i f. steps-used-up (z .words) (z .used) y v n (p .limit - k) (q ∙ ap applied.Refused c) (rw (← a .root .tree, ← h .tree) at f)) (rw m at d);
+                  (λ g i f. steps-used-up (z .words) (z .used) y v n (p .limit - steps k) (q ∙ ap applied.Refused c) (rw (← a .root .tree, ← h .tree) at f)) (rw m at d);
             } in
-            let u : z .used + machine.made (frames y) (p .limit - k) (begin (z .words) (z .used) v n) ≡ nodesMade w s p t args =
+            let u : z .used + machine.made (frames y) (p .limit - steps k) (begin (z .words) (z .used) v n) ≡ nodesMade w s p t args =
             rw (st .stack) (omega (arith, rw (st .stack) at c, a .all-made)) in
-            refuse st (r .stack) (in-apply (a .translated) (a .read-all) x u (rw (← st .stack) (omega (arith, i)))) (b .back) (zeros-length _ y (b .stack) ∙ st .stack)
+            refuse st (r .stack) (in-apply (a .translated) (a .read-all) x u (rw (← st .stack) (omega (arith, a .used-is)))) (b .back) (zeros-length _ y (b .stack) ∙ st .stack)
 
   -- each text is read: the nodes have the texts' trees, and each digit is a node
   reads-staged : (ls : List (List ℕ)) (xs : List Tree) → map readable ls ≡ map some xs → {z : Table} {y : List ℕ} → Stands w s z y
@@ -276,7 +272,7 @@ module _ {w s o : List ℕ} (fit : Fit w s o) (p : Packet) (t : Term) (args : Li
 
   -- "Then Translate, Read of each argument, Apply in order under one step limit, Write, each with its 7 to 10."
   pub stages-staged : rule (p .rule) ≡ some t → map readable (p .arguments) ≡ map some args → p .limit ≤ 1000000 → Staged w s o p t args (stages w s o p)
-  unfolding stages afterMade sound newNodesAll
+  unfolding stages afterMade sound
   stages-staged q texts limited = go (r .answer) refl
     where
       r : Rattle.table.specs.Outcome.Outcome Made
@@ -298,7 +294,7 @@ module _ {w s o : List ℕ} (fit : Fit w s o) (p : Packet) (t : Term) (args : Li
 
       go : (a : Made) → r .answer ≡ a
           → Staged w s o p t args
-          (afterMade 0 o r (λ w′ u′ s′ v. reads (p .arguments) w′ u′ s′ o (λ ns w″ u″ s″. applies ns (p .limit) w″ u″ s″ o v 0)) a)
+          (afterMade 0 o r (λ w′ u′ s′ v. reads (p .arguments) w′ u′ s′ o (λ ns w″ u″ s″. applies ns (p .limit) w″ u″ s″ o v noUses)) a)
       go (made.Node v u′) e =
           let g = translate-gives w 0 s (p .rule) v u′ e in
           let b : g .term ≡ t = cc (g .is-rule) in
@@ -311,7 +307,7 @@ module _ {w s o : List ℕ} (fit : Fit w s o) (p : Packet) (t : Term) (args : Li
           {z = record { words = r .table; used = u′ }} {y = r .stack}
           (record { fine = c .fine; extends = c .extends; stack = zeros-length _ s (g .stack) })
           (λ e m k. in-read had (rw (← d) k))
-          (λ ns w″ u″ s″. applies ns (p .limit) w″ u″ s″ o v 0)
+          (λ ns w″ u″ s″. applies ns (p .limit) w″ u″ s″ o v noUses)
           (λ ns z′ y′ st′ k hs i j h a. applies-staged limited ns hs (record {
             stands = st′;
             tree = ruleTree t;

@@ -8,6 +8,8 @@ use lib.ListN.{length, getD}
 use lib.Seq.{ext-getD}
 use lib.Dec.{ltb, leb}
 use borrow.Author.Tests.{ltb-true, ltb-false}
+use Rattle.calculus.specs.declared.Uses.{Uses}
+use Rattle.calculus.specs.Uses.{steps}
 use Rattle.table.specs.Nodes.{Table, Placed, capacity, Sound, cleared}
 use Rattle.table.specs.Outcome.{Entered, frames, zeros, stopped}
 use Rattle.table.specs.declared.Refusal.{Refusal}
@@ -107,8 +109,8 @@ apply-halts w u s f n limit e i h l q = go (apply-lacks w u s f n limit e q)
         }
 
 -- one application and those after it: where it completes, they go on with its outcome; where it is refused, none follows
-pub all-on : (all limit : ℕ) (t : Table) (v n : ℕ) (ns : List ℕ) {p : Placed} {j : ℕ} → uses all limit (begin (t .words) (t .used) v n) ≡ done p j
-    → t .used + madeAll all limit t v (n ∷ ns) ≡ p .table .used + madeAll all (limit - j) (p .table) (p .node) ns
+pub all-on : (all limit : ℕ) (t : Table) (v n : ℕ) (ns : List ℕ) {p : Placed} {j : Uses} → uses all limit (begin (t .words) (t .used) v n) ≡ done p j
+    → t .used + madeAll all limit t v (n ∷ ns) ≡ p .table .used + madeAll all (limit - steps j) (p .table) (p .node) ns
 unfolding madeAll madeOnwards
 all-on all limit t v n ns {p} e =
     let u : p .table .used ≡ t .used + made all limit (begin (t .words) (t .used) v n) = rw e at (uses-made all limit (begin (t .words) (t .used) v n)) in
@@ -120,7 +122,7 @@ pub all-stop : (w : List ℕ) (u : ℕ) (s : List ℕ) (f n limit : ℕ) (e : Re
 unfolding madeAll madeOnwards settle stopped
 all-stop w u s f n limit e i h l q ns = go (ways w u s f n limit)
   where
-    by : (x : Turn) → settle u s x .answer ≡ Refused e → madeOnwards (λ p j. madeAll (frames s) (limit - j) (p .table) (p .node) ns) x ≡ 0
+    by : (x : Turn) → settle u s x .answer ≡ Refused e → madeOnwards (λ p j. madeAll (frames s) (limit - steps j) (p .table) (p .node) ns) x ≡ 0
     by (more z) r = refl
     by (done p j) r = let z : _≡_ {A = ℕ} 0 1 = cc in absurd (omega arith)
     by (stop c t) r = refl

@@ -7,7 +7,9 @@ use mathlib.Core.Logic.{_⊎_}
 use mathlib.Core.Option.{none, some}
 use lib.ListN.{length, take, drop, getD}
 use Rattle.calculus.specs.Tree.{Tree, size}
-use Rattle.calculus.specs.Rules.{ApplyAll, newNodesAll}
+use Rattle.calculus.specs.declared.Uses.{Uses}
+use Rattle.calculus.specs.Uses.{noUses, steps, newNodes}
+use Rattle.calculus.specs.Rules.{ApplyAll}
 use Rattle.calculus.specs.Term.{Term, parameters}
 use Rattle.calculus.specs.Bytes.{rule}
 use Rattle.calculus.specs.Abstraction.{ruleTree}
@@ -25,7 +27,7 @@ use Rattle.applying.specs.Machine.{Turn, more, done, stop, uses, made}
 use Rattle.applying.specs.Apply.{begin}
 use Rattle.applying.specs.Lacks.{Halts}
 use Rattle.fields.specs.Packet.{Packet, packet}
-use Rattle.running.specs.Run.{run, ranNumbers}
+use Rattle.running.specs.Run.{run, ranNumbers, ranUses}
 use Rattle.running.specs.declared.Ran.{Ran}
 use Rattle.running.specs.declared.Ran.the-variants.{Text, Refused}
 
@@ -53,10 +55,10 @@ unfoldable pub total : List (List ℕ) → ℕ
 total [] = 0
 total (l ∷ ls) = length l + total ls
 
--- The nodes made since Run's entry where the rule t is translated, the arguments are read, and the applications d are completed: those of the rule's
--- tree, one a digit of the arguments' texts, and the "one new node" (leaf and stem) of each such use in d.
-abbrev pub nodesBy : Packet → (t : Term) {args : List Tree} {r : Tree} {k : ℕ} → ApplyAll (ruleTree t) args r k → ℕ
-nodesBy p t d = size (ruleTree t) + total (p .arguments) + newNodesAll d
+-- The nodes made since Run's entry where the rule t is translated, the arguments are read, and applications with the uses k are completed: those of the
+-- rule's tree, one a digit of the arguments' texts, and the "one new node" of each use of leaf and stem.
+abbrev pub nodesBy : Packet → Term → Uses → ℕ
+nodesBy p t k = size (ruleTree t) + total (p .arguments) + newNodes k
 
 -- Where Apply begins, the rule's tree and then the arguments' are laid: "Nodes lie as Read would lay its text." The table, and the arguments' nodes.
 abbrev pub ruleLaid : List ℕ → Term → Placed
@@ -72,7 +74,7 @@ laidNodes z (x ∷ xs) = lay z x .node ∷ laidNodes (lay z x .table) xs
 
 -- "Apply in order under one step limit": how many nodes are made where node v of the table z is applied to the first of the nodes ns, the outcome to the
 -- second, and so on, until that ends or a use lacks something. `all` frames are lent, and `limit` steps are left.
-unfoldable pub madeOnwards : (Placed → ℕ → ℕ) → Turn → ℕ
+unfoldable pub madeOnwards : (Placed → Uses → ℕ) → Turn → ℕ
 madeOnwards next (more z) = 0
 madeOnwards next (done p j) = next p j
 madeOnwards next (stop e t) = 0
@@ -81,7 +83,7 @@ unfoldable pub madeAll : ℕ → ℕ → Table → ℕ → List ℕ → ℕ
 madeAll all limit z v [] = 0
 madeAll all limit z v (n ∷ ns) =
     made all limit (begin (z .words) (z .used) v n)
-    + madeOnwards (λ p j. madeAll all (limit - j) (p .table) (p .node) ns) (uses all limit (begin (z .words) (z .used) v n))
+    + madeOnwards (λ p j. madeAll all (limit - steps j) (p .table) (p .node) ns) (uses all limit (begin (z .words) (z .used) v n))
 
 -- the nodes made since Run's entry where Apply or Write stops: the rule's, one a digit of the arguments' texts, and those that the uses made
 abbrev pub nodesMade : List ℕ → List ℕ → Packet → Term → List Tree → ℕ
@@ -108,7 +110,7 @@ pub data ReadStops (w s : List ℕ) : ℕ → List (List ℕ) → Refusal → �
   later : {u : ℕ} {l : List ℕ} {ls : List (List ℕ)} {e : Refusal} {m : ℕ} → length l ≤ capacity w - u → mostPending l ≤ frames s
       → ReadStops w s (u + length l) ls e m → ReadStops w s u (l ∷ ls) e m
 
--- The application that is refused with e: the arguments before it were applied to in k steps; then the node `function` was applied to the node
+-- The application that is refused with e: the arguments before it were applied to with the uses k; then the node `function` was applied to the node
 -- `argument` of the table that Run's table had become, and a use lacked what e names. For 7 this means that the whole run does not end within the limit.
 pub record ApplyStops (w s : List ℕ) (p : Packet) (t : Term) (args : List Tree) (e : Refusal) : Type 0 where
   pub before : List Tree
@@ -116,7 +118,7 @@ pub record ApplyStops (w s : List ℕ) (p : Packet) (t : Term) (args : List Tree
   pub table : Table
   pub function : ℕ
   pub argument : ℕ
-  pub k : ℕ
+  pub k : Uses
   pub fine : Sound table
   pub same-length : length (table .words) ≡ length w
   pub beyond : (i : ℕ) → table .used * 2 ≤ i → getD (table .words) i 0 ≡ getD w i 0
@@ -124,14 +126,14 @@ pub record ApplyStops (w s : List ℕ) (p : Packet) (t : Term) (args : List Tree
   pub argument-in : argument < table .used
   pub arguments-are : args ≡ before ++ (treeAt (table .words) argument ∷ after)
   pub so-far : ApplyAll (ruleTree t) before (treeAt (table .words) function) k
-  pub within-limit : k ≤ p .limit
-  pub used-is : table .used ≡ nodesBy p t so-far
-  pub halts : Halts (frames s) (p .limit - k) (begin (table .words) (table .used) function argument) e
-  pub no-tree : e ≡ Steps → {r : Tree} {j : ℕ} → ApplyAll (ruleTree t) args r j → p .limit < j
+  pub within-limit : steps k ≤ p .limit
+  pub used-is : table .used ≡ nodesBy p t k
+  pub halts : Halts (frames s) (p .limit - steps k) (begin (table .words) (table .used) function argument) e
+  pub no-tree : e ≡ Steps → {r : Tree} {j : Uses} → ApplyAll (ruleTree t) args r j → p .limit < steps j
 
 -- the nodes that the refused application made until it stopped
 abbrev pub madeUntil : {w s : List ℕ} {p : Packet} {t : Term} {args : List Tree} {e : Refusal} → ApplyStops w s p t args e → ℕ
-madeUntil {s = s} {p = p} x = made (frames s) (p .limit - x .k) (begin (x .table .words) (x .table .used) (x .function) (x .argument))
+madeUntil {s = s} {p = p} x = made (frames s) (p .limit - steps (x .k)) (begin (x .table .words) (x .table .used) (x .function) (x .argument))
 
 -- What the first stage that cannot go on lacks, and the m nodes that were made since Run's entry: "Then Translate, Read of each argument, Apply in
 -- order under one step limit, Write, each with its 7 to 10." The stages before it had what they needed.
@@ -140,10 +142,10 @@ pub data Stops (w s o : List ℕ) (p : Packet) (t : Term) (args : List Tree) : R
   translate-frames : size (ruleTree t) ≤ capacity w → frames s < 2 * size (ruleTree t) → Stops w s o p t args Frames 0
   in-read : {e : Refusal} {m : ℕ} → TranslateHad w s t → ReadStops w s (size (ruleTree t)) (p .arguments) e m → Stops w s o p t args e m
   in-apply : {e : Refusal} {m : ℕ} → TranslateHad w s t → ReadsHad w s (size (ruleTree t)) (p .arguments) → (x : ApplyStops w s p t args e)
-      → m ≡ nodesMade w s p t args → m ≡ nodesBy p t (x .so-far) + madeUntil x → Stops w s o p t args e m
-  in-write : {e : Refusal} {m : ℕ} {r : Tree} {k : ℕ} → TranslateHad w s t → ReadsHad w s (size (ruleTree t)) (p .arguments)
-      → (d : ApplyAll (ruleTree t) args r k) → k ≤ p .limit → Spent (frames s) 0 r (length o) (lacks e)
-      → m ≡ nodesMade w s p t args → m ≡ nodesBy p t d → Stops w s o p t args e m
+      → m ≡ nodesMade w s p t args → m ≡ nodesBy p t (x .k) + madeUntil x → Stops w s o p t args e m
+  in-write : {e : Refusal} {m : ℕ} {r : Tree} {k : Uses} → TranslateHad w s t → ReadsHad w s (size (ruleTree t)) (p .arguments)
+      → ApplyAll (ruleTree t) args r k → steps k ≤ p .limit → Spent (frames s) 0 r (length o) (lacks e)
+      → m ≡ nodesMade w s p t args → m ≡ nodesBy p t k → Stops w s o p t args e m
 
 -- What was not so where Run refuses with e, and the whole outcome x: "1: lengths only. 6: packet broken. 5: its rule. 4: its arguments' texts, first to
 -- last." These "leave lent memory as found". Then a stage stops with 7 to 10: the words of the m nodes made since Run's entry are 0 and all others as
@@ -177,9 +179,12 @@ BadRule w s o l = Fit w s o × (p : Packet) × (packet l ≡ some p) × (rule (p
 abbrev pub BadText : List ℕ → List ℕ → List ℕ → List ℕ → Type 0
 BadText w s o l = Fit w s o × (p : Packet) × (packet l ≡ some p) × (t : Term) × (rule (p .rule) ≡ some t) × Unreadable (p .arguments)
 
--- What is claimed of a Run that writes n digits after k steps and leaves u nodes in use.
-pub record Completes (w s o l : List ℕ) (k u n : ℕ) : Type 0 where
-  pub numbers : ranNumbers (run w s o l .answer) ≡ record { refusal = 0; node = 0; used = u; steps = k; digits = n }
+-- What is claimed of a Run that writes n digits after j steps, with the uses k, and leaves u nodes in use.
+pub record Completes (w s o l : List ℕ) (j u n : ℕ) (k : Uses) : Type 0 where
+  pub numbers : ranNumbers (run w s o l .answer) ≡ record { refusal = 0; node = 0; used = u; steps = j; digits = n }
+  -- "five counts"; "Their sum is the steps" ([5])
+  pub counts : ranUses (run w s o l .answer) ≡ k
+  pub steps-are : j ≡ steps k
   -- the packet, its rule's term, its arguments' trees in order
   pub sent : Packet
   pub is-packet : packet l ≡ some sent
@@ -195,21 +200,22 @@ pub record Completes (w s o l : List ℕ) (k u n : ℕ) : Type 0 where
   -- "applies the translated rule's tree to the first argument by the five rules, that outcome to the second, and so on. Its steps are the uses"; "under
   -- one step limit"
   pub translated : ApplyAll (ruleTree term) args tree k
-  pub within-limit : k ≤ sent .limit
+  pub within-limit : j ≤ sent .limit
   -- "The planner's run then has a tree, and it is this one; for n = 1 the steps [..] are the planner's plus 2L + 5X − 1."
-  pub direct : 1 ≤ length args → length args ≤ parameters term → (j : ℕ) × Direct term args tree j
-  pub steps : length args ≡ 1 → (j : ℕ) → Direct term args tree j → k ≡ j + difference term
+  pub direct : 1 ≤ length args → length args ≤ parameters term → (i : ℕ) × Direct term args tree i
+  pub steps : length args ≡ 1 → (i : ℕ) → Direct term args tree i → j ≡ i + difference term
   -- the nodes in use: the rule's, one a digit of the arguments' texts, and "one new node" for each use of leaf and stem
-  pub used-is : u ≡ nodesBy sent term translated
+  pub used-is : u ≡ nodesBy sent term k
   -- "Success also sets the stack to 0, and no other table word than those of new nodes changes."
   pub stack : run w s o l .stack ≡ zeros s
   pub same-length : length (run w s o l .table) ≡ length w
   pub beyond : (i : ℕ) → 2 * u ≤ i → getD (run w s o l .table) i 0 ≡ getD w i 0
   pub fine : Sound (record { words = run w s o l .table; used = u })
 
--- What a Run of the rule t without arguments writes and counts: the translated rule's text, no step, and that tree's nodes.
-pub record Bare (w s o l : List ℕ) (t : Term) (k u n : ℕ) : Type 0 where
-  pub steps-none : k ≡ 0
+-- What a Run of the rule t without arguments writes and counts: the translated rule's text, no use of a rule, and that tree's nodes.
+pub record Bare (w s o l : List ℕ) (t : Term) (j u n : ℕ) (k : Uses) : Type 0 where
+  pub steps-none : j ≡ 0
+  pub uses-none : k ≡ noUses
   pub used-is : u ≡ size (ruleTree t)
   pub digits-are : n ≡ length (text (ruleTree t))
   pub out-is : run w s o l .out ≡ text (ruleTree t) ++ drop n o
@@ -220,7 +226,7 @@ pub data TooFew : Refusal → Type 0 where
   few-frames : TooFew Frames
   few-bytes : TooFew Out
 
--- Run's answer is the text of r after k steps, or 8, 9 or 10
-abbrev pub Writes : List ℕ → List ℕ → List ℕ → List ℕ → Tree → ℕ → Type 0
+-- Run's answer is the text of r after the uses k, or 8, 9 or 10
+abbrev pub Writes : List ℕ → List ℕ → List ℕ → List ℕ → Tree → Uses → Type 0
 Writes w s o l r k =
-    ((u : ℕ) × (run w s o l .answer ≡ Text k u (length (text r)))) ⊎ ((e : Refusal) × TooFew e × (run w s o l .answer ≡ Refused e))
+    ((u : ℕ) × (run w s o l .answer ≡ Text (steps k) u (length (text r)) k)) ⊎ ((e : Refusal) × TooFew e × (run w s o l .answer ≡ Refused e))

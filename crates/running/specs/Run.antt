@@ -6,6 +6,8 @@ use mathlib.Core.Option.{Option, none, some}
 use lib.ListN.{length}
 use lib.Dec.{leb}
 use Rattle.calculus.specs.Tree.{Tree}
+use Rattle.calculus.specs.declared.Uses.{Uses}
+use Rattle.calculus.specs.Uses.{noUses, _⊕_, steps}
 use Rattle.calculus.specs.Term.{Term}
 use Rattle.calculus.specs.Bytes as bytes
 use Rattle.table.specs.Nodes.{cleared}
@@ -29,8 +31,13 @@ use Rattle.running.specs.declared.Ran.the-variants.{Text, Refused}
 
 -- the numbers of Run's answer: "On refusal used is 0."
 unfoldable pub ranNumbers : Ran → Numbers
-ranNumbers (Text k u n) = record { refusal = 0; node = 0; used = u; steps = k; digits = n }
+ranNumbers (Text j u n k) = record { refusal = 0; node = 0; used = u; steps = j; digits = n }
 ranNumbers (Refused e) = refusedNumbers 0 e
+
+-- "Apply and Run return the uses of each, five counts in document 01's order, all 0 on refusal." ([5])
+unfoldable pub ranUses : Ran → Uses
+ranUses (Text j u n k) = k
+ranUses (Refused e) = noUses
 
 -- A stage was refused with u nodes in use before it: every node made since Run's entry is cleared, and the stack; the out bytes stay.
 unfoldable pub stopped : Refusal → List ℕ → ℕ → List ℕ → List ℕ → Outcome Ran
@@ -42,24 +49,24 @@ unfoldable pub afterMade : ℕ → List ℕ → Outcome Made → (List ℕ → �
 afterMade u o r next (made.Node v u′) = next (r .table) u′ (r .stack) v
 afterMade u o r next (made.Refused e) = stopped e (r .table) u (r .stack) o
 
-unfoldable pub afterApplied : ℕ → List ℕ → Outcome Applied → (List ℕ → ℕ → List ℕ → ℕ → ℕ → Outcome Ran) → Applied → Outcome Ran
-afterApplied u o r next (applied.Node v u′ k) = next (r .table) u′ (r .stack) v k
+unfoldable pub afterApplied : ℕ → List ℕ → Outcome Applied → (List ℕ → ℕ → List ℕ → ℕ → Uses → Outcome Ran) → Applied → Outcome Ran
+afterApplied u o r next (applied.Node v u′ j k) = next (r .table) u′ (r .stack) v k
 afterApplied u o r next (applied.Refused e) = stopped e (r .table) u (r .stack) o
 
-unfoldable pub afterWritten : ℕ → ℕ → Outcome Written → Written → Outcome Ran
-afterWritten k u r (written.Digits n) = wholeOut (Text k u n) (r .table) (r .stack) (r .out)
+unfoldable pub afterWritten : Uses → ℕ → Outcome Written → Written → Outcome Ran
+afterWritten k u r (written.Digits n) = wholeOut (Text (steps k) u n k) (r .table) (r .stack) (r .out)
 afterWritten k u r (written.Refused e) = stopped e (r .table) u (r .stack) (r .out)
 
--- Write node v, the outcome after k steps.
-unfoldable pub writes : List ℕ → ℕ → List ℕ → List ℕ → ℕ → ℕ → Outcome Ran
+-- Write node v, the outcome after the uses k.
+unfoldable pub writes : List ℕ → ℕ → List ℕ → List ℕ → ℕ → Uses → Outcome Ran
 writes w u s o v k = let r = write.write w u s v o in afterWritten k u r (r .answer)
 
--- Apply node v to the argument nodes in order under one step limit, of which k steps are taken; then write.
-unfoldable pub applies : List ℕ → ℕ → List ℕ → ℕ → List ℕ → List ℕ → ℕ → ℕ → Outcome Ran
+-- Apply node v to the argument nodes in order under one step limit, after the uses k; then write.
+unfoldable pub applies : List ℕ → ℕ → List ℕ → ℕ → List ℕ → List ℕ → ℕ → Uses → Outcome Ran
 applies [] limit w u s o v k = writes w u s o v k
 applies (n ∷ ns) limit w u s o v k =
-    let r = apply w u s v n (limit - k) in
-    afterApplied u o r (λ w′ u′ s′ v′ j. applies ns limit w′ u′ s′ o v′ (k + j)) (r .answer)
+    let r = apply w u s v n (limit - steps k) in
+    afterApplied u o r (λ w′ u′ s′ v′ j. applies ns limit w′ u′ s′ o v′ (k ⊕ j)) (r .answer)
 
 -- Read each argument's text in order, and go on with the nodes.
 unfoldable pub reads : List (List ℕ) → List ℕ → ℕ → List ℕ → List ℕ → (List ℕ → List ℕ → ℕ → List ℕ → Outcome Ran) → Outcome Ran
@@ -72,7 +79,7 @@ reads (l ∷ ls) w u s o next =
 unfoldable pub stages : List ℕ → List ℕ → List ℕ → Packet → Outcome Ran
 stages w s o p =
     let r = translate w 0 s (p .rule) in
-    afterMade 0 o r (λ w′ u′ s′ v. reads (p .arguments) w′ u′ s′ o (λ ns w″ u″ s″. applies ns (p .limit) w″ u″ s″ o v 0)) (r .answer)
+    afterMade 0 o r (λ w′ u′ s′ v. reads (p .arguments) w′ u′ s′ o (λ ns w″ u″ s″. applies ns (p .limit) w″ u″ s″ o v noUses)) (r .answer)
 
 -- whether each text is one that Read takes
 unfoldable pub allReadable : List (List ℕ) → Bool

@@ -1,12 +1,14 @@
 // Run as a definition, in specs/, and its theorems, in proofs/. Its code is in the crates `stages` and `run`.
+use calculus::Uses;
 use table::Refusal;
 
-// Run's answer: the uses of the rules, the count of used nodes, and how many digits were written.
+// Run's answer: the steps, the count of used nodes, how many digits were written, and the uses of each rule.
 pub enum Ran {
     Text {
         steps: usize,
         used: usize,
         digits: usize,
+        uses: Uses,
     },
     Refused(Refusal),
 }

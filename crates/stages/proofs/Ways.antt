@@ -11,6 +11,8 @@ use lib.ListN.{length, getD, set, take, drop, length-take, length-set, drop-of-l
 use lib.Seq.{drop-cons, getD-take, take-suc-set, getD-set-same, getD-set-other}
 use lib.Dec.{leb, ltb}
 use borrow.Author.Tests.{le-leb, ltb-true, ltb-false}
+use Rattle.calculus.specs.declared.Uses.{Uses}
+use Rattle.calculus.specs.Uses.{noUses, _⊕_, steps}
 use Rattle.calculus.specs.Bytes.{rule}
 use Rattle.table.specs.Nodes.{Sound, sound, cleared, treeAt}
 use Rattle.table.specs.Outcome.{Outcome, Entered, whole, wholeOut}
@@ -49,8 +51,8 @@ is-stopped w u s o p q = rw (p, q, cleared-all s)
 pub made-not : {a : Made} {e : Refusal} → a ≡ made.Refused e → (n u : ℕ) → a ≡ made.Node n u → ⊥
 made-not p n u q = zero-one (cc)
 
-pub applied-not : {a : Applied} {e : Refusal} → a ≡ applied.Refused e → (n u k : ℕ) → a ≡ applied.Node n u k → ⊥
-applied-not p n u k q = zero-one (cc)
+pub applied-not : {a : Applied} {e : Refusal} → a ≡ applied.Refused e → (n u j : ℕ) (k : Uses) → a ≡ applied.Node n u j k → ⊥
+applied-not p n u j k q = zero-one (cc)
 
 pub written-not : {a : Written} {e : Refusal} → a ≡ written.Refused e → (n : ℕ) → a ≡ written.Digits n → ⊥
 written-not p n q = zero-one (cc)
@@ -70,14 +72,14 @@ entered-by r e = record { table = r .fine; stack = r .stack; limits-kept = e }
 
 -- ---- Write
 
-module _ {w : List ℕ} {u : ℕ} {s o : List ℕ} {v : ℕ} (k : ℕ) (r : Ready w u s o) (h : v < u) {a : Written} {y z : List ℕ}
+module _ {w : List ℕ} {u : ℕ} {s o : List ℕ} {v : ℕ} (k : Uses) (r : Ready w u s o) (h : v < u) {a : Written} {y z : List ℕ}
     (e : wholeOut a w y z ≡ writeTree w s o (treeAt w v)) where
   is-write : wholeOut a w y z ≡ write w u s v o
   is-write = e ∙ entered-write w u s v o (entered-by r (le-leb (length o) 65535 (r .out))) h
 
-  pub is-text : {n : ℕ} → a ≡ written.Digits n → wholeOut (Text k u n) w y z ≡ writes w u s o v k
+  pub is-text : {j n : ℕ} → j ≡ steps k → a ≡ written.Digits n → wholeOut (Text j u n k) w y z ≡ writes w u s o v k
   unfolding writes afterWritten
-  is-text q = rw (← is-write, q)
+  is-text l q = rw (← is-write, q, l)
 
   pub stops-write : {x : Outcome Ran} {c : Refusal} → a ≡ written.Refused c → x ≡ stopped c w u y z → x ≡ writes w u s o v k
   unfolding writes afterWritten
@@ -86,20 +88,20 @@ module _ {w : List ℕ} {u : ℕ} {s o : List ℕ} {v : ℕ} (k : ℕ) (r : Read
 -- ---- Apply, of count argument nodes, i of them applied
 
 -- where the applications stand: the rest of them comes to what all of them do
-pub record Applying (nodes : List ℕ) (count limit : ℕ) (o w₀ : List ℕ) (u₀ : ℕ) (s₀ : List ℕ) (v₀ : ℕ) (w s : List ℕ) (v u k i : ℕ) : Type 0 where
+pub record Applying (nodes : List ℕ) (count limit : ℕ) (o w₀ : List ℕ) (u₀ : ℕ) (s₀ : List ℕ) (v₀ : ℕ) (w s : List ℕ) (v u : ℕ) (k : Uses) (i : ℕ) : Type 0 where
   pub ready : Ready w u s o
   pub inside : i ≤ count
   pub few : count ≤ length nodes
   pub limited : limit ≤ 1000000
-  pub within-limit : k ≤ limit
+  pub within-limit : steps k ≤ limit
   pub function-in : v < u
   pub nodes-in : NodesIn u nodes count
   pub same-table : length w ≡ length w₀
   pub same-stack : length s ≡ length s₀
-  pub rest : applies (drop i (take count nodes)) limit w u s o v k ≡ applies (take count nodes) limit w₀ u₀ s₀ o v₀ 0
+  pub rest : applies (drop i (take count nodes)) limit w u s o v k ≡ applies (take count nodes) limit w₀ u₀ s₀ o v₀ noUses
 
 pub applies-begin : {nodes : List ℕ} {count limit : ℕ} {o w : List ℕ} {u : ℕ} {s : List ℕ} {v : ℕ} → Ready w u s o → v < u → limit ≤ 1000000 → count ≤ length nodes
-    → NodesIn u nodes count → Applying nodes count limit o w u s v w s v u 0 0
+    → NodesIn u nodes count → Applying nodes count limit o w u s v w s v u noUses 0
 applies-begin r h l f n =
     record {
       ready = r;
@@ -114,9 +116,9 @@ applies-begin r h l f n =
       rest = refl;
     }
 
-module _ {nodes : List ℕ} {count limit : ℕ} {o w₀ : List ℕ} {u₀ : ℕ} {s₀ : List ℕ} {v₀ : ℕ} {w s : List ℕ} {v u k i : ℕ}
+module _ {nodes : List ℕ} {count limit : ℕ} {o w₀ : List ℕ} {u₀ : ℕ} {s₀ : List ℕ} {v₀ : ℕ} {w s : List ℕ} {v u : ℕ} {k : Uses} {i : ℕ}
     (p : Applying nodes count limit o w₀ u₀ s₀ v₀ w s v u k i) where
-  pub applies-end : count ≤ i → {x : Outcome Ran} → x ≡ writes w u s o v k → x ≡ applies (take count nodes) limit w₀ u₀ s₀ o v₀ 0
+  pub applies-end : count ≤ i → {x : Outcome Ran} → x ≡ writes w u s o v k → x ≡ applies (take count nodes) limit w₀ u₀ s₀ o v₀ noUses
   unfolding applies
   applies-end h q =
       let e : writes w u s o v k ≡ applies (drop i (take count nodes)) limit w u s o v k =
@@ -132,37 +134,39 @@ module _ {nodes : List ℕ} {count limit : ℕ} {o w₀ : List ℕ} {u₀ : ℕ}
         let n : i < length (take count nodes) = simp length-take (omega (arith, p .few)) in
         rw (drop-cons (take count nodes) i 0 n, getD-take count nodes i 0 h, add-one i)
 
-    module _ {a : Applied} {z y : List ℕ} (e : whole a z y ≡ applyNodes w u s v (getD nodes i 0) (limit - k)) where
-      is-apply : whole a z y ≡ apply w u s v (getD nodes i 0) (limit - k)
-      is-apply = e ∙ entered-apply (limit - k) (entered-by (p .ready) (le-leb (limit - k) 1000000 (omega (arith, p .limited)))) (p .function-in) argument-in
+    module _ {a : Applied} {z y : List ℕ} (e : whole a z y ≡ applyNodes w u s v (getD nodes i 0) (limit - steps k)) where
+      is-apply : whole a z y ≡ apply w u s v (getD nodes i 0) (limit - steps k)
+      is-apply = e ∙ entered-apply (limit - steps k) (entered-by (p .ready) (le-leb (limit - steps k) 1000000 (omega (arith, p .limited)))) (p .function-in) argument-in
 
-      pub applies-stop : {x : Outcome Ran} {c : Refusal} → a ≡ applied.Refused c → x ≡ stopped c z u y o → x ≡ applies (take count nodes) limit w₀ u₀ s₀ o v₀ 0
+      pub applies-stop : {x : Outcome Ran} {c : Refusal} → a ≡ applied.Refused c → x ≡ stopped c z u y o → x ≡ applies (take count nodes) limit w₀ u₀ s₀ o v₀ noUses
       unfolding applies afterApplied
       applies-stop {x} {c} q g =
           let b : x ≡ applies (drop i (take count nodes)) limit w u s o v k = rw (first, ← is-apply, q) g in
           b ∙ p .rest
 
       -- the steps that were left were enough for those that were taken
-      pub applies-steps : {v′ u′ j : ℕ} → a ≡ applied.Node v′ u′ j → k + j ≤ limit
-      applies-steps {v′} {u′} {j} q =
-          omega (arith, apply-follows w u s v (getD nodes i 0) (limit - k) v′ u′ j (rw (← is-apply) q) .within-limit, p .within-limit)
+      pub applies-steps : {v′ u′ m : ℕ} {j : Uses} → a ≡ applied.Node v′ u′ m j → steps k + steps j ≤ limit
+      applies-steps {v′} {u′} {m} {j} q =
+          let f = apply-follows w u s v (getD nodes i 0) (limit - steps k) v′ u′ m j (rw (← is-apply) q) in
+          omega (arith, f .steps-are, f .within-limit, p .within-limit)
 
-      pub applies-next : {v′ u′ j : ℕ} → a ≡ applied.Node v′ u′ j → length y ≡ length s → Applying nodes count limit o w₀ u₀ s₀ v₀ z y v′ u′ (k + j) (i + 1)
+      pub applies-next : {v′ u′ m : ℕ} {j : Uses} → a ≡ applied.Node v′ u′ m j → length y ≡ length s
+          → Applying nodes count limit o w₀ u₀ s₀ v₀ z y v′ u′ (k ⊕ j) (i + 1)
       unfolding applies afterApplied
-      applies-next {v′} {u′} {j} q l =
-          let f = apply-follows w u s v (getD nodes i 0) (limit - k) v′ u′ j (rw (← is-apply) q) in
-          let t : apply w u s v (getD nodes i 0) (limit - k) .table ≡ z = rw (← is-apply) in
-          let m : length z ≡ length w = ap length (sym t) ∙ f .extends .kept .same-length in
-          let b : applies (drop (i + 1) (take count nodes)) limit z u′ y o v′ (k + j) ≡ applies (drop i (take count nodes)) limit w u s o v k = rw (first, ← is-apply, q) in
+      applies-next {v′} {u′} {m} {j} q l =
+          let f = apply-follows w u s v (getD nodes i 0) (limit - steps k) v′ u′ m j (rw (← is-apply) q) in
+          let t : apply w u s v (getD nodes i 0) (limit - steps k) .table ≡ z = rw (← is-apply) in
+          let c : length z ≡ length w = ap length (sym t) ∙ f .extends .kept .same-length in
+          let b : applies (drop (i + 1) (take count nodes)) limit z u′ y o v′ (k ⊕ j) ≡ applies (drop i (take count nodes)) limit w u s o v k = rw (first, ← is-apply, q) in
           record {
             ready = record { fine = rw t at (f .fine); stack = omega (arith, p .ready .stack); out = p .ready .out };
             inside = omega arith;
             few = p .few;
             limited = p .limited;
-            within-limit = applies-steps q;
+            within-limit = omega (arith, applies-steps q);
             function-in = f .inside;
-            nodes-in = λ n c. omega (arith, p .nodes-in n c, f .extends .kept .up);
-            same-table = m ∙ p .same-table;
+            nodes-in = λ n h. omega (arith, p .nodes-in n h, f .extends .kept .up);
+            same-table = c ∙ p .same-table;
             same-stack = l ∙ p .same-stack;
             rest = b ∙ p .rest;
           }
@@ -263,7 +267,7 @@ module _ {w s o : List ℕ} (r : Ready w 0 s o) (p : Packet) {a : Made} {z y : L
   is-translate = e ∙ entered-translate w 0 s (p .rule) (entered-by r refl)
 
   pub stages-next : {n u′ : ℕ} → a ≡ made.Node n u′ → {x : Outcome Ran}
-      → x ≡ reads (p .arguments) z u′ y o (λ ns w″ u″ s″. applies ns (p .limit) w″ u″ s″ o n 0) → x ≡ stages w s o p
+      → x ≡ reads (p .arguments) z u′ y o (λ ns w″ u″ s″. applies ns (p .limit) w″ u″ s″ o n noUses) → x ≡ stages w s o p
   unfolding stages afterMade
   stages-next q g = rw (← is-translate, q) g
 

@@ -2,6 +2,7 @@
 // in the next one, as in the definition (the crate `running`), and takes its inner answer apart: a refusal clears what was made since Run's entry.
 // The table is sound throughout, so each stage is the inner operation, and no node is looked at again. specs/ says what the stages ask.
 use applying::Applied;
+use calculus::Uses;
 use running::Ran;
 use table::Made;
 use table::Refusal;
@@ -10,6 +11,7 @@ ghost use mathlib.Core.Path.{_≡_};
 ghost use mathlib.Core.List.{List};
 ghost use Prim.Native.Nat.{ℕ, _*_, _≤_, _<_};
 ghost use lib.ListN.{length, take};
+ghost use Rattle.calculus.specs.Uses.{noUses, steps};
 ghost use Rattle.table.specs.Outcome.{wholeOut};
 ghost use Rattle.packet.specs.Code.{endAt, valueAt, Stand, valuesAt};
 ghost use Rattle.running.specs.Run.{stopped, writes, applies, reads, stages};
@@ -35,7 +37,7 @@ fn made_refusal(made: Made) -> Refusal
 
 // The refusal of Apply, where there is one.
 fn applied_refusal(applied: Applied) -> Refusal
-    requires { ⌜ ((n u k : ℕ) → applied ≡ Applied.Node n u k → ⊥) ⌝ }
+    requires { ⌜ ((n u j : ℕ) (k : Uses) → applied ≡ Applied.Node n u j k → ⊥) ⌝ }
     ensures { λ r. ⌜ applied ≡ Applied.Refused r ⌝ }
 {
     match applied {
@@ -44,6 +46,7 @@ fn applied_refusal(applied: Applied) -> Refusal
             node: _,
             used: _,
             steps: _,
+            uses: _,
         } => Refusal::Limits,
     }
 }
@@ -70,27 +73,28 @@ fn stop(table: &mut [u32], used: usize, stack: &mut [u32], refusal: Refusal) -> 
     Ran::Refused(refusal)
 }
 
-// Writes the outcome, a node that came of so many steps.
+// Writes the outcome, a node that came of these uses.
 fn write_outcome(
     table: &mut [u32],
     used: usize,
     stack: &mut [u32],
     out: &mut [u8],
     node: usize,
-    steps: usize,
+    uses: Uses,
 ) -> Ran
-    requires { ⌜ Ready (now table) used (now stack) (now out) × (node < used) ⌝ }
+    requires { ⌜ Ready (now table) used (now stack) (now out) × (node < used) × (steps uses ≤ 1000000) ⌝ }
     ensures { λ r. ⌜ wholeOut r (now (table .exit)) (now (stack .exit)) (now (out .exit))
-        ≡ writes (now (table .entry)) used (now (stack .entry)) (now (out .entry)) node steps ⌝ }
+        ≡ writes (now (table .entry)) used (now (stack .entry)) (now (out .entry)) node uses ⌝ }
 {
     let written = writer::write_node(table, used, stack, node, out);
     let Written::Digits(digits) = written else {
         return stop(table, used, stack, written_refusal(written));
     };
     Ran::Text {
-        steps: steps,
+        steps: counts::sum(uses),
         used: used,
         digits: digits,
+        uses: uses,
     }
 }
 
@@ -105,31 +109,39 @@ fn apply_all(
 ) -> Ran
     requires { ⌜ Ready (now table) used (now stack) (now out) × (work .rule < used) × (work .limit ≤ 1000000) × (work .count ≤ 8) × NodesIn used nodes (work .count) ⌝ }
     ensures { λ r. ⌜ wholeOut r (now (table .exit)) (now (stack .exit)) (now (out .exit))
-        ≡ applies (take (work .count) nodes) (work .limit) (now (table .entry)) used (now (stack .entry)) (now (out .entry)) (work .rule) 0 ⌝ }
+        ≡ applies (take (work .count) nodes) (work .limit) (now (table .entry)) used (now (stack .entry)) (now (out .entry)) (work .rule) noUses ⌝ }
 {
     let count = work.count;
     let limit = work.limit;
     let mut node = work.rule;
     let mut in_use = used;
-    let mut steps = 0;
+    let mut uses = Uses {
+        leaf: 0,
+        stem: 0,
+        drop: 0,
+        spread: 0,
+        triage: 0,
+    };
     let mut done = 0;
     while done < count {
         let argument = nodes[done];
-        let applied = machine::apply_nodes(table, in_use, stack, node, argument, limit - steps);
+        let left = limit - counts::sum(uses);
+        let applied = machine::apply_nodes(table, in_use, stack, node, argument, left);
         let Applied::Node {
             node: given,
             used: used_then,
-            steps: taken,
+            steps: _,
+            uses: taken,
         } = applied
         else {
             return stop(table, in_use, stack, applied_refusal(applied));
         };
         node = given;
         in_use = used_then;
-        steps += taken;
+        uses = counts::plus(uses, taken);
         done += 1;
     }
-    write_outcome(table, in_use, stack, out, node, steps)
+    write_outcome(table, in_use, stack, out, node, uses)
 }
 
 // Reads each argument's text in order, from a position of the packet on.
@@ -145,7 +157,7 @@ fn read_all(
     requires { ⌜ Ready (now table) used (now stack) (now out) × (work .rule < used) × (work .limit ≤ 1000000) × (work .count ≤ 8) × Stand (now packet) from (work .count) ⌝ }
     ensures { λ r. ⌜ wholeOut r (now (table .exit)) (now (stack .exit)) (now (out .exit))
         ≡ reads (valuesAt (now (packet .entry)) from (work .count)) (now (table .entry)) used (now (stack .entry)) (now (out .entry))
-        (λ ns w u s. applies ns (work .limit) w u s (now (out .entry)) (work .rule) 0) ⌝ }
+        (λ ns w u s. applies ns (work .limit) w u s (now (out .entry)) (work .rule) noUses) ⌝ }
 {
     let count = work.count;
     let mut nodes = [0usize; 8];

@@ -20,7 +20,11 @@ use std::cell::RefCell;
 use std::hint::black_box;
 use std::path::Path;
 
+/// What every build answers: refusal, node, used, steps and digits.
 type Answer = [usize; 5];
+
+/// How many numbers a run is lent for its answer. A build from before [5] writes the first five.
+const LENT: usize = 10;
 
 /// Memory of so much room, with no word 0.
 fn memory(room: Room) -> Memory {
@@ -35,7 +39,7 @@ fn call(run: Run, m: &mut Memory, case: &Case) -> Answer {
     let table = &mut m.table[..case.room.table];
     let stack = &mut m.stack[..case.room.stack];
     let out = &mut m.out[..case.room.out];
-    let mut answer = [0; 5];
+    let mut answer = [0; LENT];
     // The pointers and lengths are those of slices that nothing else borrows.
     unsafe {
         run(
@@ -50,7 +54,7 @@ fn call(run: Run, m: &mut Memory, case: &Case) -> Answer {
             &mut answer,
         )
     };
-    answer
+    std::array::from_fn(|i| answer[i])
 }
 
 /// What a run answers and leaves in memory, which is the same for every one of these.

@@ -45,7 +45,7 @@ mod c {
         usize,
         usize,
         usize,
-        *mut [usize; 5],
+        *mut [usize; 10],
     );
 
     pub type Run = unsafe extern "C" fn(
@@ -57,7 +57,7 @@ mod c {
         usize,
         *const u8,
         usize,
-        *mut [usize; 5],
+        *mut [usize; 10],
     );
 
     extern "C" {
@@ -120,6 +120,10 @@ mod c {
             ("C, gcc -O3", loops("apply_gcc")),
             #[cfg(clang)]
             ("C, clang -O3", loops("apply_clang")),
+            #[cfg(gcc)]
+            ("C, gcc -O3, three counters", loops("apply_gcc_derived")),
+            #[cfg(clang)]
+            ("C, clang -O3, three counters", loops("apply_clang_derived")),
             #[cfg(gcc)]
             ("C, gcc -O3, same checks", loops("apply_gcc_checked")),
             #[cfg(clang)]
@@ -248,8 +252,8 @@ fn applied(workload: Workload) -> Vec<Times> {
     rounds(contenders, ROUNDS)
 }
 
-fn call(apply: c::Apply, w: &mut Workload) -> [usize; 5] {
-    let mut answer = [0; 5];
+fn call(apply: c::Apply, w: &mut Workload) -> [usize; 10] {
+    let mut answer = [0; 10];
     // The pointers and lengths are those of slices that nothing else borrows. The C loop trusts the
     // table and the numbers, which the engine has checked.
     unsafe {
@@ -393,7 +397,7 @@ fn texts_and_rules() {
 }
 
 /// The second evaluator gives the engine's steps, nodes and text, or its refusal.
-fn same_run(ran: &lazvorn::Numbers, out: &[u8], second: &Result<second::Outcome, u8>) {
+fn same_run(ran: &lazvorn::Counted, out: &[u8], second: &Result<second::Outcome, u8>) {
     match second {
         Ok(o) => {
             let text = &out[..ran.digits];

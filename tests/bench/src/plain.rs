@@ -4,8 +4,15 @@
 
 pub type Answer = [usize; 5];
 
+/// The same of Apply, and the uses of each rule.
+pub type Counted = [usize; 10];
+
 fn refused(number: usize, used: usize) -> Answer {
     [number, 0, used, 0, 0]
+}
+
+fn refused_uses(number: usize, used: usize) -> Counted {
+    [number, 0, used, 0, 0, 0, 0, 0, 0, 0]
 }
 
 /// Refusals 1 and 2.
@@ -152,19 +159,20 @@ pub fn apply(
     function: usize,
     argument: usize,
     limit: usize,
-) -> Answer {
+) -> Counted {
     if limit > 1_000_000 {
-        return refused(1, used);
+        return refused_uses(1, used);
     }
     if let Err(number) = check(table, used, stack) {
-        return refused(number, used);
+        return refused_uses(number, used);
     }
     if function >= used || argument >= used {
-        return refused(3, used);
+        return refused_uses(3, used);
     }
     let (nodes, frames) = (table.len() / 2, stack.len() / 3);
     let (mut f, mut n) = (function, argument);
     let (mut made, mut held, mut steps) = (used, 0, 0);
+    let (mut leaf, mut stem, mut drop, mut spread, mut triage) = (0, 0, 0, 0, 0);
     let ended = loop {
         if steps == limit {
             break Err(7);
@@ -175,7 +183,13 @@ pub fn apply(
             if made == nodes {
                 break Err(8);
             }
-            let (first, second) = if a == 0 { (n + 1, 0) } else { (a, n + 1) };
+            let (first, second) = if a == 0 {
+                leaf += 1;
+                (n + 1, 0)
+            } else {
+                stem += 1;
+                (a, n + 1)
+            };
             table[2 * made] = first as u32;
             table[2 * made + 1] = second as u32;
             v = made;
@@ -184,6 +198,7 @@ pub fn apply(
             let at = 2 * (a - 1);
             let (p, q) = (table[at] as usize, table[at + 1] as usize);
             if p == 0 {
+                drop += 1;
                 v = b - 1;
             } else {
                 if held == frames {
@@ -193,9 +208,11 @@ pub fn apply(
                 held += 1;
                 steps += 1;
                 if q == 0 {
+                    spread += 1;
                     frame.copy_from_slice(&[0, p as u32 - 1, n as u32]);
                     f = b - 1;
                 } else {
+                    triage += 1;
                     frame[..2].copy_from_slice(&[2, q as u32 - 1]);
                     f = n;
                     n = p - 1;
@@ -226,10 +243,10 @@ pub fn apply(
     };
     stack.fill(0);
     match ended {
-        Ok(v) => [0, v, made, steps, 0],
+        Ok(v) => [0, v, made, steps, 0, leaf, stem, drop, spread, triage],
         Err(number) => {
             table[2 * used..2 * made].fill(0);
-            refused(number, used)
+            refused_uses(number, used)
         }
     }
 }

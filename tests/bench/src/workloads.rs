@@ -1,8 +1,7 @@
 //! What is applied to what.
 
 use crate::evaluator::evaluator;
-use crate::plain::Answer;
-use compare::answer_of;
+use compare::counted_of;
 use compare::packets::Parts;
 
 /// One application, ready to be made over and over: a call writes only nodes past `used` and the
@@ -17,7 +16,7 @@ pub struct Workload {
     pub limit: usize,
     /// A packet whose run ends in the same application.
     pub parts: Parts,
-    pub answer: Answer,
+    pub answer: model::Counted,
 }
 
 const SELF: &[u8] = &[2, 1, 3, 0, 3, 0];
@@ -47,9 +46,10 @@ fn applied(rule: &[u8], arguments: &[Vec<u8>]) -> Vec<u8> {
     let mut made = lazvorn::translate(&mut table, 0, &mut stack, rule);
     for text in arguments {
         let read = lazvorn::read(&mut table, made.used, &mut stack, text);
-        made = lazvorn::apply(
+        let applied = lazvorn::apply(
             &mut table, read.used, &mut stack, made.node, read.node, 1_000_000,
         );
+        made = applied.numbers();
         assert_eq!(made.refusal, 0);
     }
     let written = lazvorn::write(&table, made.used, &mut stack, made.node, &mut out);
@@ -114,14 +114,14 @@ impl Workload {
             argument: *argument,
             limit,
             parts,
-            answer: [0; 5],
+            answer: [0; 10],
         };
         workload.answer = workload.apply();
         workload
     }
 
-    pub fn apply(&mut self) -> Answer {
-        answer_of(lazvorn::apply(
+    pub fn apply(&mut self) -> model::Counted {
+        counted_of(lazvorn::apply(
             &mut self.table,
             self.used,
             &mut self.stack,

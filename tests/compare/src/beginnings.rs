@@ -4,6 +4,7 @@
 
 use crate::calls::{both, Call};
 use crate::{Counts, Noise};
+use compare::answer_of;
 use compare::random::Random;
 use compare::trees;
 
@@ -30,7 +31,7 @@ fn read(random: &mut Random, noise: &Noise, text: &[u8], nodes: usize, frames: u
     both(
         noise.memory(random, 2 * nodes, 3 * frames, 0),
         || format!("text {}", String::from_utf8_lossy(text)),
-        |m| lazvorn::read(&mut m.table, 0, &mut m.stack, text),
+        |m| answer_of(lazvorn::read(&mut m.table, 0, &mut m.stack, text)),
         |m| model::read(m, 0, text),
     )
 }

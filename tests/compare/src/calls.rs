@@ -2,10 +2,10 @@
 //! noise, with lengths and numbers at and beyond every border.
 
 use crate::{difference, hexadecimal, Counts, Noise};
-use compare::answer_of;
 use compare::random::Random;
 use compare::trees;
-use model::{Answer, Memory};
+use compare::{answer_of, counted_of};
+use model::Memory;
 
 /// An operation, with the refusals that it can meet.
 #[derive(Clone, Copy)]
@@ -70,14 +70,14 @@ pub fn compare(
 }
 
 /// Makes one call on two copies of a memory.
-pub fn both(
+pub fn both<const N: usize>(
     memory: Memory,
     what: impl FnOnce() -> String,
-    engine: impl FnOnce(&mut Memory) -> lazvorn::Numbers,
-    model: impl FnOnce(&mut Memory) -> Answer,
+    engine: impl FnOnce(&mut Memory) -> [usize; N],
+    model: impl FnOnce(&mut Memory) -> [usize; N],
 ) -> Call {
     let (mut ours, mut theirs) = (memory.clone(), memory.clone());
-    let answer = answer_of(engine(&mut ours));
+    let answer = engine(&mut ours);
     let modelled = model(&mut theirs);
     let place = difference(&ours, &theirs);
     let differs = answer != modelled || place.is_some();
@@ -255,7 +255,7 @@ fn read(random: &mut Random, noise: &Noise) -> Call {
                 String::from_utf8_lossy(&text)
             )
         },
-        |m| lazvorn::read(&mut m.table, used, &mut m.stack, &text),
+        |m| answer_of(lazvorn::read(&mut m.table, used, &mut m.stack, &text)),
         |m| model::read(m, used, &text),
     )
 }
@@ -283,7 +283,15 @@ fn write(random: &mut Random, noise: &Noise) -> Call {
     both(
         memory,
         || format!("node {node}, {used} nodes in use"),
-        |m| lazvorn::write(&m.table, used, &mut m.stack, node, &mut m.out),
+        |m| {
+            answer_of(lazvorn::write(
+                &m.table,
+                used,
+                &mut m.stack,
+                node,
+                &mut m.out,
+            ))
+        },
         |m| model::write(m, used, node),
     )
 }
@@ -312,7 +320,7 @@ fn translate(random: &mut Random, noise: &Noise) -> Call {
     both(
         memory,
         || format!("{used} nodes in use, rule {}", hexadecimal(&bytes)),
-        |m| lazvorn::translate(&mut m.table, used, &mut m.stack, &bytes),
+        |m| answer_of(lazvorn::translate(&mut m.table, used, &mut m.stack, &bytes)),
         |m| model::translate(m, used, &bytes),
     )
 }
@@ -348,7 +356,16 @@ fn apply(random: &mut Random, noise: &Noise) -> Call {
     both(
         memory,
         || format!("{function} to {argument}, limit {limit}, {used} nodes in use"),
-        |m| lazvorn::apply(&mut m.table, used, &mut m.stack, function, argument, limit),
+        |m| {
+            counted_of(lazvorn::apply(
+                &mut m.table,
+                used,
+                &mut m.stack,
+                function,
+                argument,
+                limit,
+            ))
+        },
         |m| model::apply(m, used, function, argument, limit),
     )
 }
@@ -363,7 +380,7 @@ fn label(random: &mut Random, noise: &Noise) -> Call {
     both(
         memory,
         || format!("{rule} with {label}, {used} nodes in use"),
-        |m| lazvorn::label(&mut m.table, used, rule, label),
+        |m| answer_of(lazvorn::label(&mut m.table, used, rule, label)),
         |m| model::label(m, used, rule, label),
     )
 }

@@ -1,5 +1,6 @@
 //! What the comparison, the program's test and the benchmark share: packets, rules, texts and rule
-//! texts from a seeded generator, an answer as five numbers, and which requests of document 02 hold.
+//! texts from a seeded generator, an answer as a list of numbers, and which requests of document 02
+//! hold.
 
 pub mod packets;
 pub mod random;
@@ -20,5 +21,23 @@ pub fn answer_of(numbers: lazvorn::Numbers) -> model::Answer {
         numbers.used,
         numbers.steps,
         numbers.digits,
+    ]
+}
+
+/// The same of an answer of Apply or Run, with the uses of each rule.
+pub fn counted_of(answer: lazvorn::Counted) -> model::Counted {
+    let [refusal, node, used, steps, digits] = answer_of(answer.numbers());
+    let uses = answer.uses;
+    [
+        refusal,
+        node,
+        used,
+        steps,
+        digits,
+        uses.leaf,
+        uses.stem,
+        uses.drop,
+        uses.spread,
+        uses.triage,
     ]
 }

@@ -1,9 +1,9 @@
 //! Compares the engine with the second evaluator on packets, and with the model on packets, on calls
 //! of each operation, on texts and their beginnings and on rule texts: answers and every lent word and
 //! byte. Rule texts printed from random expressions are held to the expressions too. Prints each
-//! difference, of rule texts the first few, and how often each refusal was met. The exit status is 1
-//! where anything differs, and where a refusal that packets or rule texts can meet was met too seldom
-//! for the run to mean something.
+//! difference, of rule texts the first few, how often each refusal was met, and how many packets used
+//! each rule. The exit status is 1 where anything differs, and where a refusal that packets or rule
+//! texts can meet, or a rule, was met too seldom for the run to mean something.
 //!
 //! `compare [PACKETS [SEED]]`
 
@@ -24,8 +24,11 @@ const EXPRESSIONS: usize = 20_000;
 /// How many whole texts are cut to beginnings.
 const BEGINNINGS: usize = 20_000;
 
-/// How often a packet must meet each refusal from 4 to 10.
+/// How often a packet must meet each refusal from 4 to 10, and in how many that succeed each rule must
+/// be used.
 const SELDOM: usize = 100;
+
+const RULES: [&str; 5] = ["leaf", "stem", "drop", "spread", "triage"];
 
 /// How often rule texts with a known outcome, and rule texts with one byte changed, must succeed and
 /// meet each of their refusals.
@@ -115,6 +118,28 @@ fn compare_texts(random: &mut Random, noise: &Noise) -> usize {
     differences
 }
 
+/// Compares runs of packets; how many differ, and how many refusals and rules were met too seldom.
+fn compare_runs(random: &mut Random, noise: &Noise, packets: usize) -> usize {
+    let outcome = runs::compare(random, noise, packets);
+    print("Run", &outcome.counts, 1..=10);
+    let using = RULES.iter().zip(outcome.using);
+    let shown: Vec<String> = using
+        .clone()
+        .map(|(rule, n)| format!("{rule}: {n}"))
+        .collect();
+    println!("{:<10} rules used by {}", "", shown.join(", "));
+    let refusals = outcome.counts.iter().enumerate().skip(4);
+    let met = refusals.map(|(number, count)| (format!("refusal {number}"), *count));
+    let mut differences = outcome.differences;
+    for (what, count) in met.chain(using.map(|(rule, n)| (format!("the rule {rule}"), n))) {
+        if count < SELDOM {
+            println!("{what} was met {count} times: too seldom");
+            differences += 1;
+        }
+    }
+    differences
+}
+
 fn compare() -> bool {
     let words: Vec<u64> = std::env::args()
         .skip(1)
@@ -124,14 +149,7 @@ fn compare() -> bool {
     let mut random = Random::new(words.get(1).copied().unwrap_or(20_261_115));
     let noise = Noise::new(&mut random);
 
-    let (counts, mut differences) = runs::compare(&mut random, &noise, packets);
-    print("Run", &counts, 1..=10);
-    for (number, count) in counts.iter().enumerate().skip(4) {
-        if *count < SELDOM {
-            println!("refusal {number} was met {count} times: too seldom");
-            differences += 1;
-        }
-    }
+    let mut differences = compare_runs(&mut random, &noise, packets);
     for operation in calls::OPERATIONS {
         let (counts, more) = calls::compare(&mut random, &noise, operation, CALLS / 5);
         print(operation.name, &counts, 1..=10);

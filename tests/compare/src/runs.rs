@@ -3,37 +3,41 @@
 use crate::{difference, hexadecimal, Counts, Noise};
 use compare::packets::{self, Case};
 use compare::random::Random;
-use compare::{answer_of, PAPERS};
-use model::{Answer, Memory};
+use compare::{counted_of, PAPERS};
+use model::{Counted, Memory};
 
-/// The line that the program would print for a run.
-fn line(answer: &Answer, out: &[u8]) -> String {
-    let [refusal, _, used, steps, digits] = *answer;
+/// The line that the program would print for a run, and the uses of each rule.
+type Told = (String, [usize; 5]);
+
+fn told(answer: &Counted, out: &[u8]) -> Told {
+    let [refusal, _, used, steps, digits, uses @ ..] = *answer;
     let text = if refusal == 0 {
         String::from_utf8_lossy(&out[..digits]).into_owned()
     } else {
         "-".to_string()
     };
-    format!("{refusal} {steps} {used} {text}")
+    (format!("{refusal} {steps} {used} {text}"), uses)
 }
 
-fn second_line(case: &Case) -> String {
+fn second_told(case: &Case) -> Told {
     let room = case.room;
     if room.table > 131_072 || room.stack > 65_536 || room.out > 65_535 {
-        return "1 0 0 -".to_string();
+        return ("1 0 0 -".to_string(), [0; 5]);
     }
     let room = second::Room {
         nodes: room.table / 2,
         frames: room.stack / 3,
         out: room.out,
     };
-    second::line(&second::run(&case.packet, room, PAPERS))
+    let ran = second::run(&case.packet, room, PAPERS);
+    let uses = ran.as_ref().map_or([0; 5], |outcome| outcome.uses);
+    (second::line(&ran), uses.map(|count| count as usize))
 }
 
 /// Whether memory is as the paper says that every refusal and every success leaves it. This knows of
 /// the answer alone, and the model, which fixes every word, is compared besides.
-fn kept(before: &Memory, after: &Memory, answer: &Answer) -> bool {
-    let [refusal, _, used, _, digits] = *answer;
+fn kept(before: &Memory, after: &Memory, answer: &Counted) -> bool {
+    let [refusal, _, used, _, digits, ..] = *answer;
     let zero = after.stack.iter().all(|word| *word == 0);
     match refusal {
         0 => {
@@ -52,11 +56,11 @@ fn kept(before: &Memory, after: &Memory, answer: &Answer) -> bool {
 }
 
 /// Runs a case and adds it to the counts. Gives the engine's answer, and false where it differs.
-fn check(random: &mut Random, noise: &Noise, case: &Case, counts: &mut Counts) -> (Answer, bool) {
+fn check(random: &mut Random, noise: &Noise, case: &Case, counts: &mut Counts) -> (Counted, bool) {
     let room = case.room;
     let before = noise.memory(random, room.table, room.stack, room.out);
     let mut engine = before.clone();
-    let answer = answer_of(lazvorn::run(
+    let answer = counted_of(lazvorn::run(
         &mut engine.table,
         &mut engine.stack,
         &mut engine.out,
@@ -67,9 +71,9 @@ fn check(random: &mut Random, noise: &Noise, case: &Case, counts: &mut Counts) -
     counts[modelled[0]] += 1;
 
     let mut wrong = Vec::new();
-    let (ours, theirs) = (line(&answer, &engine.out), second_line(case));
+    let (ours, theirs) = (told(&answer, &engine.out), second_told(case));
     if ours != theirs {
-        wrong.push(format!("engine: {ours}\nsecond: {theirs}"));
+        wrong.push(format!("engine: {ours:?}\nsecond: {theirs:?}"));
     }
     if answer != modelled {
         wrong.push(format!("engine: {answer:?}\nmodel:  {modelled:?}"));
@@ -85,9 +89,17 @@ fn check(random: &mut Random, noise: &Noise, case: &Case, counts: &mut Counts) -
     (answer, wrong.is_empty())
 }
 
-/// Runs so many packets; how often each refusal was met, and how many differ.
-pub fn compare(random: &mut Random, noise: &Noise, packets: usize) -> (Counts, usize) {
+/// What came of so many packets: how often each refusal was met, in how many of those that succeeded
+/// each rule was used, and how many differ.
+pub struct Compared {
+    pub counts: Counts,
+    pub using: [usize; 5],
+    pub differences: usize,
+}
+
+pub fn compare(random: &mut Random, noise: &Noise, packets: usize) -> Compared {
     let mut counts = [0; 11];
+    let mut using = [0; 5];
     let mut differences = 0;
     let mut done = 0;
     while done < packets {
@@ -95,7 +107,8 @@ pub fn compare(random: &mut Random, noise: &Noise, packets: usize) -> (Counts, u
         let (answer, same) = check(random, noise, &case, &mut counts);
         done += 1;
         differences += usize::from(!same);
-        let [refusal, _, used, steps, digits] = answer;
+        let [refusal, _, used, steps, digits, uses @ ..] = answer;
+        using = std::array::from_fn(|rule| using[rule] + usize::from(uses[rule] > 0));
         if refusal != 0 || case.parts.is_none() {
             continue;
         }
@@ -110,7 +123,11 @@ pub fn compare(random: &mut Random, noise: &Noise, packets: usize) -> (Counts, u
             done += 1;
         }
     }
-    (counts, differences)
+    Compared {
+        counts,
+        using,
+        differences,
+    }
 }
 
 /// A case that succeeds, with just enough frames by the second evaluator, or one too few.
@@ -120,7 +137,7 @@ fn with_few_frames(random: &mut Random, case: &Case) -> Case {
     while few < enough {
         let middle = (few + enough) / 2;
         case.room.stack = 3 * middle;
-        if second_line(&case).starts_with("0 ") {
+        if second_told(&case).0.starts_with("0 ") {
             enough = middle;
         } else {
             few = middle + 1;

@@ -19,6 +19,47 @@ pub struct Numbers {
     pub digits: usize,
 }
 
+/// How often each of the five rules was used.
+#[derive(Clone, Copy, Debug, Default, PartialEq, Eq)]
+pub struct Uses {
+    pub leaf: usize,
+    pub stem: usize,
+    pub drop: usize,
+    pub spread: usize,
+    pub triage: usize,
+}
+
+/// The ten numbers of an answer of Apply or Run: the five, and the uses of each rule, whose sum is
+/// the steps. A refusal has `used` as at entry (0 for Run) and 0 for the numbers after it.
+#[derive(Clone, Copy, Debug, Default, PartialEq, Eq)]
+pub struct Counted {
+    /// 0 for success, else the refusal's number.
+    pub refusal: usize,
+    /// The outcome's node; 0 for Run.
+    pub node: usize,
+    /// The count of used nodes after the call.
+    pub used: usize,
+    /// The uses of the five rules.
+    pub steps: usize,
+    /// The digits written; 0 for Apply.
+    pub digits: usize,
+    /// The uses of each rule.
+    pub uses: Uses,
+}
+
+impl Counted {
+    /// The five numbers that every operation on a table gives.
+    pub fn numbers(&self) -> Numbers {
+        Numbers {
+            refusal: self.refusal,
+            node: self.node,
+            used: self.used,
+            steps: self.steps,
+            digits: self.digits,
+        }
+    }
+}
+
 /// The two numbers of an answer about a rule text. A refusal has 0 for the bytes.
 #[derive(Clone, Copy, Debug, Default, PartialEq, Eq)]
 pub struct TextNumbers {
@@ -95,7 +136,7 @@ mod raw {
             function: usize,
             argument: usize,
             limit: usize,
-            answer: *mut [usize; 5],
+            answer: *mut [usize; 10],
         );
         pub fn lazvorn_label(
             table: *mut u32,
@@ -114,7 +155,7 @@ mod raw {
             out_len: usize,
             packet: *const u8,
             packet_len: usize,
-            answer: *mut [usize; 5],
+            answer: *mut [usize; 10],
         );
         pub fn lazvorn_rule_text(
             text: *const u8,
@@ -137,6 +178,28 @@ fn numbers(call: impl FnOnce(*mut [usize; 5])) -> Numbers {
         used,
         steps,
         digits,
+    }
+}
+
+/// The same for Apply and Run.
+fn counted(call: impl FnOnce(*mut [usize; 10])) -> Counted {
+    let mut answer = [usize::MAX; 10];
+    call(&mut answer);
+    let [refusal, node, used, steps, digits, leaf, stem, drop, spread, triage] = answer;
+    let uses = Uses {
+        leaf,
+        stem,
+        drop,
+        spread,
+        triage,
+    };
+    Counted {
+        refusal,
+        node,
+        used,
+        steps,
+        digits,
+        uses,
     }
 }
 
@@ -206,8 +269,8 @@ pub fn apply(
     function: usize,
     argument: usize,
     limit: usize,
-) -> Numbers {
-    numbers(|answer| unsafe {
+) -> Counted {
+    counted(|answer| unsafe {
         raw::lazvorn_apply(
             table.as_mut_ptr(),
             table.len(),
@@ -231,8 +294,8 @@ pub fn label(table: &mut [u32], used: usize, rule: usize, label: usize) -> Numbe
 
 /// Runs a packet with the table taken as empty, and writes the outcome's text to `out`. The step limit
 /// of a packet that names none is 100,000.
-pub fn run(table: &mut [u32], stack: &mut [u32], out: &mut [u8], packet: &[u8]) -> Numbers {
-    numbers(|answer| unsafe {
+pub fn run(table: &mut [u32], stack: &mut [u32], out: &mut [u8], packet: &[u8]) -> Counted {
+    counted(|answer| unsafe {
         raw::lazvorn_run(
             table.as_mut_ptr(),
             table.len(),

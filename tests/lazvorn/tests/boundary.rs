@@ -3,8 +3,8 @@
 //! one too few of each, so that an argument in another's place, or a length that is lost, shows.
 
 use lazvorn::{
-    Numbers, TextNumbers, BROKEN, FRAMES, LIMITS, NODE, NODES, OUT, PACKET, RULE, RULE_TEXT, STEPS,
-    TEXT,
+    Counted, Numbers, TextNumbers, Uses, BROKEN, FRAMES, LIMITS, NODE, NODES, OUT, PACKET, RULE,
+    RULE_TEXT, STEPS, TEXT,
 };
 
 /// Fills memory that is to be left as found, or overwritten.
@@ -74,6 +74,14 @@ fn refused(refusal: usize, used: usize) -> Numbers {
         refusal,
         used,
         ..Numbers::default()
+    }
+}
+
+fn refused_uses(refusal: usize, used: usize) -> Counted {
+    Counted {
+        refusal,
+        used,
+        ..Counted::default()
     }
 }
 
@@ -186,30 +194,38 @@ fn apply() {
     let (numbers, lent) = call(9, 5, 3, 1, 2, 1);
     assert_eq!(
         numbers,
-        Numbers {
+        Counted {
             node: 3,
             used: 4,
             steps: 1,
-            ..Numbers::default()
+            uses: Uses {
+                stem: 1,
+                ..Uses::default()
+            },
+            ..Counted::default()
         }
     );
     assert_eq!(lent.table[..9], [0, 0, 1, 0, 1, 2, 1, 3, NOISE]);
     lent.stack_is_zero();
     // The fork of the leaf and the stem drops the leaf it is applied to.
-    let dropped = Numbers {
+    let dropped = Counted {
         node: 1,
         used: 3,
         steps: 1,
-        ..Numbers::default()
+        uses: Uses {
+            drop: 1,
+            ..Uses::default()
+        },
+        ..Counted::default()
     };
     assert_eq!(call(9, 5, 3, 2, 0, 1).0, dropped);
-    assert_eq!(call(9, 5, 3, 1, 2, 0).0, refused(STEPS, 3));
-    assert_eq!(call(7, 5, 3, 1, 2, 1).0, refused(NODES, 3));
-    assert_eq!(call(9, 5, 3, 3, 2, 1).0, refused(NODE, 3));
-    assert_eq!(call(9, 5, 3, 1, 3, 1).0, refused(NODE, 3));
-    assert_eq!(call(9, 5, 3, 1, 2, 1_000_001).0, refused(LIMITS, 3));
-    assert_eq!(call(9, 5, 4, 1, 2, 1).0, refused(BROKEN, 4));
-    assert_eq!(call(9, 65_537, 3, 1, 2, 1).0, refused(LIMITS, 3));
+    assert_eq!(call(9, 5, 3, 1, 2, 0).0, refused_uses(STEPS, 3));
+    assert_eq!(call(7, 5, 3, 1, 2, 1).0, refused_uses(NODES, 3));
+    assert_eq!(call(9, 5, 3, 3, 2, 1).0, refused_uses(NODE, 3));
+    assert_eq!(call(9, 5, 3, 1, 3, 1).0, refused_uses(NODE, 3));
+    assert_eq!(call(9, 5, 3, 1, 2, 1_000_001).0, refused_uses(LIMITS, 3));
+    assert_eq!(call(9, 5, 4, 1, 2, 1).0, refused_uses(BROKEN, 4));
+    assert_eq!(call(9, 65_537, 3, 1, 2, 1).0, refused_uses(LIMITS, 3));
 }
 
 #[test]
@@ -250,30 +266,87 @@ fn run() {
         lent.nothing_beyond();
         (numbers, lent)
     };
-    // The paper's packet: λx. x x on the leaf gives 10 in 10 steps and 18 nodes.
+    // The paper's packet: λx. x x on the leaf gives 10 in 10 steps and 18 nodes. The rule's tree
+    // spreads, and so does λx. x on the leaf, twice; each of these takes a stem, a leaf and a drop,
+    // and the last application is the leaf on the leaf.
     let bytes = b"\x01\x00\x06\x02\x01\x03\x00\x03\x00\x02\x00\x0100";
     let packet = &bytes[..13];
     let (numbers, lent) = call(37, 73, 3, packet);
     assert_eq!(
         numbers,
-        Numbers {
+        Counted {
             used: 18,
             steps: 10,
             digits: 2,
-            ..Numbers::default()
+            uses: Uses {
+                leaf: 3,
+                stem: 2,
+                drop: 2,
+                spread: 3,
+                triage: 0,
+            },
+            ..Counted::default()
         }
     );
     assert_eq!(lent.out[..3], [b'1', b'0', BYTE]);
     assert_eq!(lent.table[36], NOISE);
     lent.stack_is_zero();
-    assert_eq!(call(35, 73, 3, packet).0, refused(NODES, 0));
-    assert_eq!(call(37, 71, 3, packet).0, refused(FRAMES, 0));
-    assert_eq!(call(37, 73, 1, packet).0, refused(OUT, 0));
-    assert_eq!(call(37, 73, 3, &bytes[..14]).0, refused(PACKET, 0));
-    assert_eq!(call(37, 73, 3, &bytes[..12]).0, refused(PACKET, 0));
-    assert_eq!(call(131_073, 73, 3, packet).0, refused(LIMITS, 0));
-    assert_eq!(call(37, 65_537, 3, packet).0, refused(LIMITS, 0));
-    assert_eq!(call(37, 73, 65_536, packet).0, refused(LIMITS, 0));
+    assert_eq!(call(35, 73, 3, packet).0, refused_uses(NODES, 0));
+    assert_eq!(call(37, 71, 3, packet).0, refused_uses(FRAMES, 0));
+    assert_eq!(call(37, 73, 1, packet).0, refused_uses(OUT, 0));
+    assert_eq!(call(37, 73, 3, &bytes[..14]).0, refused_uses(PACKET, 0));
+    assert_eq!(call(37, 73, 3, &bytes[..12]).0, refused_uses(PACKET, 0));
+    assert_eq!(call(131_073, 73, 3, packet).0, refused_uses(LIMITS, 0));
+    assert_eq!(call(37, 65_537, 3, packet).0, refused_uses(LIMITS, 0));
+    assert_eq!(call(37, 73, 65_536, packet).0, refused_uses(LIMITS, 0));
+}
+
+/// Five counts that all differ, each of them over several arguments. I is λx. x, 21010.
+#[test]
+fn uses_over_arguments() {
+    let arguments: [(&[u8], [usize; 5]); 8] = [
+        // I on the leaf gives the leaf: spread, then stem, leaf and drop.
+        (b"0", [1, 1, 1, 1, 0]),
+        // The leaf on ΔIΔ gives its stem, and the stem on the leaf the fork Δ(ΔIΔ)Δ.
+        (b"2210100", [1, 0, 0, 0, 0]),
+        (b"0", [0, 1, 0, 0, 0]),
+        // This on I is triage: I on I gives I, and I on the leaf gives the leaf.
+        (b"21010", [2, 2, 2, 2, 1]),
+        // The leaf on the leaf gives ΔΔ, this on the leaf ΔΔΔ, which drops what it is applied to
+        // and gives the leaf, and that on the leaf gives ΔΔ.
+        (b"0", [1, 0, 0, 0, 0]),
+        (b"0", [0, 1, 0, 0, 0]),
+        (b"0", [0, 0, 1, 0, 0]),
+        (b"0", [1, 0, 0, 0, 0]),
+    ];
+    let mut packet = vec![1, 0, 3, 2, 3, 0];
+    let mut counts = [0; 5];
+    for (text, uses) in arguments {
+        packet.extend([2, 0, text.len() as u8]);
+        packet.extend(text);
+        counts = std::array::from_fn(|i| counts[i] + uses[i]);
+    }
+    assert_eq!(counts, [6, 5, 4, 3, 1]);
+    let [leaf, stem, drop, spread, triage] = counts;
+    let mut lent = Lent::new(68, 99, 2);
+    let (t, s, o) = lent.parts();
+    let ran = lazvorn::run(t, s, o, &packet);
+    lent.nothing_beyond();
+    let expected = Counted {
+        used: 5 + 18 + leaf + stem,
+        steps: 19,
+        digits: 2,
+        uses: Uses {
+            leaf,
+            stem,
+            drop,
+            spread,
+            triage,
+        },
+        ..Counted::default()
+    };
+    assert_eq!(ran, expected);
+    assert_eq!(lent.out[..2], *b"10");
 }
 
 /// Calls `rule_text` with so many out bytes; what it answers, and the out bytes with those beyond.

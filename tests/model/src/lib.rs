@@ -20,6 +20,16 @@ pub struct Memory {
 /// Refusal, node, used, steps and digits.
 pub type Answer = [usize; 5];
 
+/// The same of Apply and Run, and the uses of leaf, stem, drop, spread and triage ([5]).
+pub type Counted = [usize; 10];
+
+/// How often each rule was used.
+type Uses = [usize; 5];
+
+fn counted(answer: Answer, uses: Uses) -> Counted {
+    std::array::from_fn(|i| if i < 5 { answer[i] } else { uses[i - 5] })
+}
+
 /// A refusal's number.
 type Refusal = usize;
 
@@ -62,6 +72,11 @@ impl Memory {
 
 fn refused(number: Refusal, used: usize) -> Answer {
     [number, 0, used, 0, 0]
+}
+
+/// "all 0 on refusal" ([5])
+fn refused_uses(number: Refusal, used: usize) -> Counted {
+    counted(refused(number, used), [0; 5])
 }
 
 // ---- trees and their text
@@ -415,30 +430,51 @@ pub fn translate(memory: &mut Memory, used: usize, bytes: &[u8]) -> Answer {
 
 // ---- application
 
+/// A use of a rule: its place in document 01's order, and whether it needs a new node or a frame.
+struct Use {
+    place: usize,
+    node: bool,
+    frame: bool,
+}
+
+const fn rule_use(place: usize, node: bool, frame: bool) -> Use {
+    Use { place, node, frame }
+}
+
+const LEAF: Use = rule_use(0, true, false);
+const STEM: Use = rule_use(1, true, false);
+const DROP: Use = rule_use(2, false, false);
+const SPREAD: Use = rule_use(3, false, true);
+const TRIAGE: Use = rule_use(4, false, true);
+
 /// What an application is counted against, and the words of the nodes it has made.
 struct Machine {
     capacity: usize,
     frames: usize,
     limit: usize,
     used: usize,
-    steps: usize,
+    uses: Uses,
     made: Vec<(usize, usize)>,
 }
 
 impl Machine {
     /// One use of a rule: 7, then 8 if it needs a node, then 9 if it needs a frame beside `held`.
-    fn step(&mut self, node: bool, frame: bool, held: usize) -> Result<(), Refusal> {
-        if self.steps == self.limit {
+    fn step(&mut self, wanted: Use, held: usize) -> Result<(), Refusal> {
+        if self.steps() == self.limit {
             return Err(7);
         }
-        if node && self.used + self.made.len() == self.capacity {
+        if wanted.node && self.used + self.made.len() == self.capacity {
             return Err(8);
         }
-        if frame && held == self.frames {
+        if wanted.frame && held == self.frames {
             return Err(9);
         }
-        self.steps += 1;
+        self.uses[wanted.place] += 1;
         Ok(())
+    }
+
+    fn steps(&self) -> usize {
+        self.uses.iter().sum()
     }
 
     fn make(&mut self, shape: Shape) -> Rc<Tree> {
@@ -458,26 +494,26 @@ impl Machine {
         loop {
             let (next, argument) = match &f.shape {
                 Shape::Leaf => {
-                    self.step(true, false, held)?;
+                    self.step(LEAF, held)?;
                     return Ok(self.make(Shape::Stem(n)));
                 }
                 Shape::Stem(p) => {
-                    self.step(true, false, held)?;
+                    self.step(STEM, held)?;
                     return Ok(self.make(Shape::Fork(p.clone(), n)));
                 }
                 Shape::Fork(first, y) => match &first.shape {
                     Shape::Leaf => {
-                        self.step(false, false, held)?;
+                        self.step(DROP, held)?;
                         return Ok(y.clone());
                     }
                     Shape::Stem(p) => {
-                        self.step(false, true, held)?;
+                        self.step(SPREAD, held)?;
                         let v = self.apply(y.clone(), n.clone(), held + 1)?;
                         let w = self.apply(p.clone(), n, held + 1)?;
                         (v, w)
                     }
                     Shape::Fork(p, q) => {
-                        self.step(false, true, held)?;
+                        self.step(TRIAGE, held)?;
                         (self.apply(n, p.clone(), held + 1)?, q.clone())
                     }
                 },
@@ -493,22 +529,22 @@ pub fn apply(
     function: usize,
     argument: usize,
     limit: usize,
-) -> Answer {
+) -> Counted {
     if limit > 1_000_000 {
-        return refused(1, used);
+        return refused_uses(1, used);
     }
     if let Err(number) = memory.check(used) {
-        return refused(number, used);
+        return refused_uses(number, used);
     }
     if function >= used || argument >= used {
-        return refused(3, used);
+        return refused_uses(3, used);
     }
     let mut machine = Machine {
         capacity: memory.capacity(),
         frames: memory.frames(),
         limit,
         used,
-        steps: 0,
+        uses: [0; 5],
         made: Vec::new(),
     };
     let nodes = trees(&memory.table, used);
@@ -516,12 +552,12 @@ pub fn apply(
     let end = used + machine.made.len();
     memory.undo(used, end);
     match result {
-        Err(number) => refused(number, used),
+        Err(number) => refused_uses(number, used),
         Ok(tree) => {
             for (i, &(first, second)) in machine.made.iter().enumerate() {
                 memory.put(used + i, first, second);
             }
-            [0, tree.node, end, machine.steps, 0]
+            counted([0, tree.node, end, machine.steps(), 0], machine.uses)
         }
     }
 }
@@ -599,37 +635,37 @@ fn packet_of(packet: &[u8]) -> Option<Packet<'_>> {
     })
 }
 
-pub fn run(memory: &mut Memory, packet: &[u8]) -> Answer {
+pub fn run(memory: &mut Memory, packet: &[u8]) -> Counted {
     if memory.table.len() > 131_072 || memory.stack.len() > 65_536 || memory.out.len() > 65_535 {
-        return refused(1, 0);
+        return refused_uses(1, 0);
     }
     let Some(packet) = packet_of(packet) else {
-        return refused(6, 0);
+        return refused_uses(6, 0);
     };
     if rule(packet.rule).is_none() {
-        return refused(5, 0);
+        return refused_uses(5, 0);
     }
     if packet.arguments.iter().any(|text| readable(text).is_none()) {
-        return refused(4, 0);
+        return refused_uses(4, 0);
     }
     let mut used = 0;
     match stages(memory, &packet, &mut used) {
         Ok(answer) => answer,
         Err(number) => {
             memory.undo(0, used);
-            refused(number, 0)
+            refused_uses(number, 0)
         }
     }
 }
 
 /// The operations in a packet's order. `used` is the count of nodes made by those that succeeded.
-fn stages(memory: &mut Memory, packet: &Packet, used: &mut usize) -> Result<Answer, Refusal> {
+fn stages(memory: &mut Memory, packet: &Packet, used: &mut usize) -> Result<Counted, Refusal> {
     let mut node = taken(translate(memory, 0, packet.rule), used)?[1];
     let mut arguments = Vec::new();
     for text in &packet.arguments {
         arguments.push(taken(read(memory, *used, text), used)?[1]);
     }
-    let mut steps = 0;
+    let (mut steps, mut uses) = (0, [0; 5]);
     for argument in arguments {
         let applied = taken(
             apply(memory, *used, node, argument, packet.limit - steps),
@@ -637,12 +673,15 @@ fn stages(memory: &mut Memory, packet: &Packet, used: &mut usize) -> Result<Answ
         )?;
         node = applied[1];
         steps += applied[3];
+        uses.iter_mut()
+            .zip(&applied[5..])
+            .for_each(|(sum, more)| *sum += more);
     }
     let written = taken(write(memory, *used, node), used)?;
-    Ok([0, 0, *used, steps, written[4]])
+    Ok(counted([0, 0, *used, steps, written[4]], uses))
 }
 
-fn taken(answer: Answer, used: &mut usize) -> Result<Answer, Refusal> {
+fn taken<const N: usize>(answer: [usize; N], used: &mut usize) -> Result<[usize; N], Refusal> {
     match answer[0] {
         0 => {
             *used = answer[2];

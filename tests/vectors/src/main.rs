@@ -233,9 +233,8 @@ fn apply_command(m: &mut Memory, room: [&str; 3], trees: &[&str]) -> Answer<Stri
         let table = lend(&mut m.table, 2 * (before + free))?;
         let stack = lend(&mut m.stack, 3 * frames)?;
         let left = limit - all.steps;
-        let one = accepted(lazvorn::apply(
-            table, all.used, stack, all.node, *argument, left,
-        ))?;
+        let one = lazvorn::apply(table, all.used, stack, all.node, *argument, left);
+        let one = accepted(one.numbers())?;
         let steps = all.steps + one.steps;
         all = Numbers { steps, ..one };
     }
@@ -263,7 +262,7 @@ fn words_command(m: &mut Memory, letter: &str, rest: &[&str]) -> Answer<String> 
         "r" => lazvorn::read(table, used, stack, b"0"),
         "w" => lazvorn::write(table, used, stack, a, out),
         "t" => lazvorn::translate(table, used, stack, &[2, 0]),
-        "a" => lazvorn::apply(table, used, stack, a, b, 100),
+        "a" => lazvorn::apply(table, used, stack, a, b, 100).numbers(),
         "l" => lazvorn::label(table, used, a, b),
         _ => return Err(Early::NoCommand),
     };

@@ -1,6 +1,6 @@
 -- `ffi::lazvorn_apply` meets its contract: the operation's outcome, with its answer as numbers. Assumes nothing.
-use Rattle.applying.specs.Apply.{appliedNumbers}
-use Rattle.ffi.proofs.Numbered.{is-numbered}
+use Rattle.applying.specs.Apply.{appliedNumbers, appliedUses}
+use Rattle.ffi.proofs.Numbered.{is-counted}
 use borrow.Author.Needs.{needs}
 use Rattle.ffi.proofs.lazvorn_apply.Statement.{statement}
 use Rattle.ffi.proofs.lazvorn_apply.Tie as tie
@@ -20,7 +20,7 @@ same-length-2 c = search needs
 returns : tie.Need-returns
 returns c =
     let call = c .before .before .before .before .before in
-    is-numbered (appliedNumbers (call .before .before .before .before .before .args .used)) (c .applied .ensures) (call .apply .ensures)
+    is-counted (appliedNumbers (call .before .before .before .before .before .args .used)) appliedUses (c .applied .ensures) (call .apply .ensures)
 
 pub lazvorn-apply-spec : {M : Type 1} → statement M
 lazvorn-apply-spec =

@@ -1,6 +1,6 @@
 -- `ffi::lazvorn_run` meets its contract: the operation's outcome, with its answer as numbers. Assumes nothing.
-use Rattle.running.specs.Run.{ranNumbers}
-use Rattle.ffi.proofs.Numbered.{is-numbered}
+use Rattle.running.specs.Run.{ranNumbers, ranUses}
+use Rattle.ffi.proofs.Numbered.{is-counted}
 use borrow.Author.Needs.{needs}
 use Rattle.ffi.proofs.lazvorn_run.Statement.{statement}
 use Rattle.ffi.proofs.lazvorn_run.Tie as tie
@@ -21,7 +21,7 @@ same-length-3 : tie.Need-same-length-3
 same-length-3 c = search needs
 
 returns : tie.Need-returns
-returns c = is-numbered ranNumbers (c .ran .ensures) (c .before .before .before .before .before .before .before .run .ensures)
+returns c = is-counted ranNumbers ranUses (c .ran .ensures) (c .before .before .before .before .before .before .before .run .ensures)
 
 pub lazvorn-run-spec : {M : Type 1} → statement M
 lazvorn-run-spec =

@@ -9,7 +9,7 @@ use Rattle.frames.proofs.resume.Tie as tie
 returns : tie.Need-returns
 returns c =
     let a = c .before .before .args in
-    λ w. none-left (a .stack .now) w (a .used) (a .held) (a .steps) (a .v) (c .if1 .taken)
+    λ w. none-left (a .stack .now) w (a .used) (a .held) (a .uses) (a .v) (c .if1 .taken)
 
 sub-at : tie.Need-sub-at
 sub-at c = search needs
@@ -47,7 +47,7 @@ returns-2 c =
     let f = p .before .before .before in
     let t = f .before .before in
     let a = t .before .before .before .before .args in
-    λ w. spread-left (a .stack .now) w (a .used) (a .held) (a .steps) (a .v) (p .push .last .0) (f .frame .given .0 .0) (f .frame .given .0 .1 .0) _
+    λ w. spread-left (a .stack .now) w (a .used) (a .held) (a .uses) (a .v) (p .push .last .0) (f .frame .given .0 .0) (f .frame .given .0 .1 .0) _
     (omega arith) (omega arith) (sym (t .top .ensures) ∙ f .frame .given .1) (p .push .ensures) (c .more .ensures)
 
 same-length-2 : tie.Need-same-length-2
@@ -58,7 +58,7 @@ returns-3 c =
     let f = c .before .before in
     let t = f .before .before in
     let a = t .before .before .before .before .args in
-    λ w. second-left (a .stack .now) w (a .used) (a .held) (a .steps) (a .v) (f .frame2 .given .0 .0) _
+    λ w. second-left (a .stack .now) w (a .used) (a .held) (a .uses) (a .v) (f .frame2 .given .0 .0) _
     (omega arith) (sym (t .top .ensures) ∙ f .frame2 .given .1) (c .more2 .ensures)
 
 same-length-3 : tie.Need-same-length-3
@@ -69,7 +69,7 @@ returns-4 c =
     let f = c .before .before in
     let t = f .before .before in
     let a = t .before .before .before .before .args in
-    λ w. triage-left (a .stack .now) w (a .used) (a .held) (a .steps) (a .v) (f .frame3 .given .0 .0) _
+    λ w. triage-left (a .stack .now) w (a .used) (a .held) (a .uses) (a .v) (f .frame3 .given .0 .0) _
     (omega arith) (sym (t .top .ensures) ∙ f .frame3 .given .1) (c .more3 .ensures)
 
 pub resume-spec : {M : Type 1} → statement M

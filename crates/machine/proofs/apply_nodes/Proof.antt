@@ -18,7 +18,7 @@ unfolding framesOf
 settle-requires c κs =
     let r = c .before .before .before .before .before .before in
     let b = r .before .before .before .before .before in
-    used-in (b .args .stack .now) (b .pre .0) (b .pre .1) (b .pre .2) (b .args .limit) (r .uses .result) (r .uses .last .0) (r .uses .last .1 .0) (r .uses .ensures)
+    used-in (b .args .stack .now) (b .pre .0) (b .pre .1) (b .pre .2) (b .args .limit) (r .uses .result) (r .uses .last .0) (r .uses .last .1 .0) (r .uses .ensures) (b .pre .3)
 
 same-length : tie.Need-same-length
 same-length c = search needs

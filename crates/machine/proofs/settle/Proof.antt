@@ -17,6 +17,11 @@ undo-requires c κs = search needs
 enum-told-2 : tie.Need-enum-told-2
 enum-told-2 c = search needs
 
+sum-requires : tie.Need-sum-requires
+sum-requires c κs =
+    let z = c .before .before .before .before .before .before in
+    z .before .before .before .pre .2 (c .enum-told2 .given .1)
+
 enum-told-3 : tie.Need-enum-told-3
 enum-told-3 c = search needs
 
@@ -48,9 +53,10 @@ same-length-3 c = search needs
 
 returns-2 : tie.Need-returns-2
 returns-2 c =
-    let z = c .before .before .before .before .before in
+    let z = c .before .before .before .before .before .before in
     let a = z .before .before .before .before .args in
-    settle-done (a .used) (a .table .now) (a .stack .now) (a .table .now) (z .clear .last .0) (a .turned) _ (z .clear .ensures) (c .enum-told2 .given .1) refl
+    settle-done (a .used) (a .table .now) (a .stack .now) (a .table .now) (z .clear .last .0) (a .turned) _ (z .clear .ensures) (c .sum .ensures)
+    (c .before .enum-told2 .given .1) refl
 
 same-length-4 : tie.Need-same-length-4
 same-length-4 c = search needs
@@ -88,6 +94,7 @@ settle-spec =
     enum-told
     undo-requires
     enum-told-2
+    sum-requires
     enum-told-3
     undo-requires-2
     enum-told-4

@@ -11,17 +11,14 @@ use Rattle.rules.proofs.grow.Tie as tie
 returns : tie.Need-returns
 returns c =
     let a = c .before .before .before .args in
-    grow-full (a .state) (a .table .now) (a .stack .now) (a .a) (a .b) (omega arith)
+    grow-full (a .state) (a .uses) (a .table .now) (a .stack .now) (a .a) (a .b) (omega arith)
 
 new-node-requires : tie.Need-new-node-requires
 new-node-requires c κs = search needs
 
-add-resume : tie.Need-add-resume
-add-resume c = search needs
-
 resume-requires : tie.Need-resume-requires
 resume-requires c κs =
-    let n = c .before .before .before .before in
+    let n = c .before .before .before in
     let a = n .before .before .before .before .before .args in
     let e : n .new-node .result .node ≡ a .state .used = ap (λ (p : Placed). p .node) (n .new-node .ensures) ∙ make-node _ _ _ in
     (omega (arith, n .before .before .before .before .before .pre), omega (arith, e, n .before .before .if1 .left, n .before .before .before .before .before .pre))
@@ -35,9 +32,9 @@ same-length-2 c = search needs
 returns-2 : tie.Need-returns-2
 returns-2 c =
     let r = c .before .before in
-    let n = r .before .before .before .before .before in
+    let n = r .before .before .before .before in
     let a = n .before .before .before .before .before .args in
-    grow-free (a .state) (a .table .now) (a .stack .now) (a .a) (a .b) (n .new-node .result) (n .new-node .last .0) _
+    grow-free (a .state) (a .uses) (a .table .now) (a .stack .now) (a .a) (a .b) (n .new-node .result) (n .new-node .last .0) _
     (omega (arith, n .before .before .if1 .left)) (n .new-node .ensures) (r .resume .ensures (n .new-node .last .0))
 
 pub grow-spec : {M : Type 1} → statement M
@@ -46,7 +43,6 @@ grow-spec =
     (tie.spec
     returns
     new-node-requires
-    add-resume
     resume-requires
     same-length
     same-length-2

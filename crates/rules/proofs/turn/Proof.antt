@@ -4,8 +4,9 @@ use mathlib.Core.Path.{_≡_, sym, _∙_}
 use Rattle.table.specs.Outcome.{frames}
 use Rattle.applying.specs.declared.Rule.{Rule}
 use Rattle.applying.specs.Machine.{State, Turn, useRule, turn}
+use Rattle.frames.specs.declared.Machine.{Machine}
 use Rattle.frames.specs.Code.{stateOf}
-use Rattle.rules.proofs.Steps.{reach, Asks, asks, by-rule}
+use Rattle.rules.proofs.Steps.{reach, Asks, asks, counting, by-rule}
 use borrow.Author.Needs.{needs}
 use native.Mathlib.Omega.{arith}
 use Rattle.rules.proofs.turn.Statement.{statement}
@@ -18,14 +19,19 @@ known c r e =
     let s = c .before .before .before .before in
     asks (s .args .state) (s .args .table .now) (s .args .stack .now) (s .pre .0) r (sym (c .wanted .ensures) ∙ e)
 
+abbrev machine : tie.After-wanted → Machine
+machine c = c .before .before .before .before .args .state
+
 abbrev start : tie.After-wanted → State
 start c = let a = c .before .before .before .before .args in stateOf (a .state) (a .table .now) (a .stack .now)
 
 abbrev lent : tie.After-wanted → ℕ
 lent c = frames (c .before .before .before .before .args .stack .now)
 
-used : (c : tie.After-wanted) (x : Turn) (r : Rule) → c .wanted .result ≡ r → x ≡ useRule (lent c) (start c) r → x ≡ turn (lent c) (start c)
-used c x r e = by-rule (lent c) (start c) x r (sym (c .wanted .ensures) ∙ e)
+used : (c : tie.After-wanted) (x : Turn) (r : Rule) → c .wanted .result ≡ r → x ≡ useRule (lent c) (start c) (counting (machine c) r) r → x ≡ turn (lent c) (start c)
+used c x r e =
+    let a = c .before .before .before .before .args in
+    by-rule (lent c) (a .state) (a .table .now) (a .stack .now) x r (sym (c .wanted .ensures) ∙ e)
 
 wanted-requires : tie.Need-wanted-requires
 wanted-requires c κs =
@@ -35,20 +41,26 @@ wanted-requires c κs =
 enum-told : tie.Need-enum-told
 enum-told c = search needs
 
+add-uses : tie.Need-add-uses
+add-uses c = search needs
+
 add-grow : tie.Need-add-grow
 add-grow c = search needs
 
 grow-requires : tie.Need-grow-requires
 grow-requires c κs =
-    let k = known (c .before .before .before .before) _ (c .before .before .enum-told .given .1) in
-    (k .short, k .held, c .before .before .before .before .before .before .before .before .pre .1, omega (arith, k .argument), omega arith)
+    let k = known (c .before .before .before .before .before) _ (c .before .before .before .enum-told .given .1) in
+    (k .short, k .held, omega (arith, k .argument), omega arith)
 
 enum-known-rule : tie.Need-enum-known-rule
 enum-known-rule c = search needs
 
+add-uses-2 : tie.Need-add-uses-2
+add-uses-2 c = search needs
+
 add-grow-2 : tie.Need-add-grow-2
 add-grow-2 c =
-    let k = known (c .before .before .before .before .before) _ (c .before .before .before .rule .given .1) in
+    let k = known (c .before .before .before .before .before .before) _ (c .before .before .before .before .rule .given .1) in
     omega (arith, k .named)
 
 add-grow-3 : tie.Need-add-grow-3
@@ -56,14 +68,14 @@ add-grow-3 c = search needs
 
 grow-requires-2 : tie.Need-grow-requires-2
 grow-requires-2 c κs =
-    let k = known (c .before .before .before .before .before) _ (c .before .before .before .rule .given .1) in
-    (k .short, k .held, c .before .before .before .before .before .before .before .before .before .pre .1, omega (arith, k .named), omega (arith, k .argument))
+    let k = known (c .before .before .before .before .before .before) _ (c .before .before .before .before .rule .given .1) in
+    (k .short, k .held, omega (arith, k .named), omega (arith, k .argument))
 
 enum-known-rule-2 : tie.Need-enum-known-rule-2
 enum-known-rule-2 c = search needs
 
-add-resume : tie.Need-add-resume
-add-resume c = search needs
+add-uses-3 : tie.Need-add-uses-3
+add-uses-3 c = search needs
 
 resume-requires : tie.Need-resume-requires
 resume-requires c κs =
@@ -73,18 +85,24 @@ resume-requires c κs =
 enum-known-rule-3 : tie.Need-enum-known-rule-3
 enum-known-rule-3 c = search needs
 
+add-uses-4 : tie.Need-add-uses-4
+add-uses-4 c = search needs
+
 hold-requires : tie.Need-hold-requires
 hold-requires c κs =
-    let k = known (c .before .before .before .before) _ (c .before .before .rule3 .given .1) in
-    (k .held, c .before .before .before .before .before .before .before .before .pre .1, (omega (arith, k .named .0), omega (arith, k .argument)))
+    let k = known (c .before .before .before .before .before) _ (c .before .before .before .rule3 .given .1) in
+    (k .held, (omega (arith, k .named .0), omega (arith, k .argument)))
 
 enum-known-rule-4 : tie.Need-enum-known-rule-4
 enum-known-rule-4 c = search needs
 
+add-uses-5 : tie.Need-add-uses-5
+add-uses-5 c = search needs
+
 hold-requires-2 : tie.Need-hold-requires-2
 hold-requires-2 c κs =
-    let k = known (c .before .before .before .before) _ (c .before .before .rule4 .given .1) in
-    (k .held, c .before .before .before .before .before .before .before .before .pre .1, omega (arith, k .named .1))
+    let k = known (c .before .before .before .before .before) _ (c .before .before .before .rule4 .given .1) in
+    (k .held, omega (arith, k .named .1))
 
 same-length : tie.Need-same-length
 same-length c = search needs
@@ -94,7 +112,7 @@ same-length-2 c = search needs
 
 returns : tie.Need-returns
 unfolding useRule
-returns c = used (c .before .before .before .before .before .before .before .before .before) _ _ (c .before .before .before .before .before .before .before .enum-told .given .1) (c .before .before .before .before .grow .ensures)
+returns c = used (c .before .before .before .before .before .before .before .before .before .before) _ _ (c .before .before .before .before .before .before .before .before .enum-told .given .1) (c .before .before .before .before .grow .ensures)
 
 same-length-3 : tie.Need-same-length-3
 same-length-3 c = search needs
@@ -104,7 +122,7 @@ same-length-4 c = search needs
 
 returns-2 : tie.Need-returns-2
 unfolding useRule
-returns-2 c = used (c .before .before .before .before .before .before .before .before .before .before) _ _ (c .before .before .before .before .before .before .before .before .rule .given .1) (c .before .before .before .before .grow2 .ensures)
+returns-2 c = used (c .before .before .before .before .before .before .before .before .before .before .before) _ _ (c .before .before .before .before .before .before .before .before .before .rule .given .1) (c .before .before .before .before .grow2 .ensures)
 
 same-length-5 : tie.Need-same-length-5
 same-length-5 c = search needs
@@ -124,7 +142,7 @@ same-length-8 c = search needs
 
 returns-4 : tie.Need-returns-4
 unfolding useRule
-returns-4 c = used (c .before .before .before .before .before .before .before) _ _ (c .before .before .before .before .before .rule3 .given .1) (c .before .before .hold .ensures (c .before .before .before .before .before .before .before .before .before .before .before .args .table .now))
+returns-4 c = used (c .before .before .before .before .before .before .before .before) _ _ (c .before .before .before .before .before .before .rule3 .given .1) (c .before .before .hold .ensures (c .before .before .before .before .before .before .before .before .before .before .before .before .args .table .now))
 
 same-length-9 : tie.Need-same-length-9
 same-length-9 c = search needs
@@ -134,7 +152,7 @@ same-length-10 c = search needs
 
 returns-5 : tie.Need-returns-5
 unfolding useRule
-returns-5 c = used (c .before .before .before .before .before .before .before) _ _ (c .before .before .before .before .before .rule4 .given .1) (c .before .before .hold2 .ensures (c .before .before .before .before .before .before .before .before .before .before .before .args .table .now))
+returns-5 c = used (c .before .before .before .before .before .before .before .before) _ _ (c .before .before .before .before .before .before .rule4 .given .1) (c .before .before .hold2 .ensures (c .before .before .before .before .before .before .before .before .before .before .before .before .args .table .now))
 
 pub turn-spec : {M : Type 1} → statement M
 turn-spec =
@@ -142,18 +160,22 @@ turn-spec =
     (tie.spec
     wanted-requires
     enum-told
+    add-uses
     add-grow
     grow-requires
     enum-known-rule
+    add-uses-2
     add-grow-2
     add-grow-3
     grow-requires-2
     enum-known-rule-2
-    add-resume
+    add-uses-3
     resume-requires
     enum-known-rule-3
+    add-uses-4
     hold-requires
     enum-known-rule-4
+    add-uses-5
     hold-requires-2
     same-length
     same-length-2

@@ -13,7 +13,7 @@ returns : tie.Need-returns
 returns c = search needs
 
 returns-2 : tie.Need-returns-2
-returns-2 c = absurd (c .before .before .pre _ _ _ (c .enum-told .given .1))
+returns-2 c = absurd (c .before .before .pre _ _ _ _ (c .enum-told .given .1))
 
 pub applied-refusal-spec : {M : Type 1} → statement M
 applied-refusal-spec = tie.close (tie.spec enum-known-applied enum-told returns returns-2)

@@ -9,10 +9,10 @@ use Rattle.stages.proofs.apply_all.Statement.{statement}
 use Rattle.stages.proofs.apply_all.Tie as tie
 
 abbrev Inv-loop : tie.InvT-loop
-Inv-loop table₀ used stack₀ out nodes count limit node₀ in-use₀ steps₀ done₀ table stack node in-use steps done = Applying nodes count limit out table₀ used stack₀ node₀ table stack node in-use steps done
+Inv-loop table₀ used stack₀ out nodes count limit node₀ in-use₀ uses₀ done₀ table stack node in-use uses done = Applying nodes count limit out table₀ used stack₀ node₀ table stack node in-use uses done
 
 abbrev μ-loop : tie.MeasureT-loop
-μ-loop table₀ used stack₀ out nodes count limit node₀ in-use₀ steps₀ done₀ table stack node in-use steps done = count - done
+μ-loop table₀ used stack₀ out nodes count limit node₀ in-use₀ uses₀ done₀ table stack node in-use uses done = count - done
 
 loop-holds : tie.Need-loop-holds Inv-loop μ-loop
 loop-holds c = applies-begin (c .before .before .before .pre .0) (c .before .before .before .pre .1) (c .before .before .before .pre .2) (omega (arith, c .before .before .before .pre .3)) (c .before .before .before .pre .4)
@@ -23,13 +23,17 @@ mul-argument c = omega (arith, c .before .before .before .before .before .pre .3
 array-read-argument : tie.Need-array-read-argument Inv-loop μ-loop
 array-read-argument c = omega (arith, c .before .before .before .before .before .pre .3)
 
-sub-apply-nodes : tie.Need-sub-apply-nodes Inv-loop μ-loop
-sub-apply-nodes c = omega (arith, c .before .before .before .loop .inv .within-limit)
+sum-requires : tie.Need-sum-requires Inv-loop μ-loop
+sum-requires c κs = omega (arith, c .before .loop .inv .within-limit, c .before .loop .inv .limited)
+
+sub-left : tie.Need-sub-left Inv-loop μ-loop
+sub-left c = omega (arith, c .sum .ensures, c .before .before .loop .inv .within-limit)
 
 apply-nodes-requires : tie.Need-apply-nodes-requires Inv-loop μ-loop
 apply-nodes-requires c κs =
-    let i = c .before .before .before .loop .inv in
-    (i .ready .fine, i .function-in, argument-in i (c .before .before .loop-test .taken), omega (arith, i .limited))
+    let t = c .before .before .before in
+    let i = t .before .loop .inv in
+    (i .ready .fine, i .function-in, argument-in i (t .loop-test .taken), omega (arith, i .limited))
 
 enum-known-applied : tie.Need-enum-known-applied Inv-loop μ-loop
 enum-known-applied c = search needs
@@ -41,31 +45,57 @@ applied-refusal-requires : tie.Need-applied-refusal-requires Inv-loop μ-loop
 applied-refusal-requires c κs = applied-not (c .before .before .enum-told .given .1)
 
 stop-requires : tie.Need-stop-requires Inv-loop μ-loop
-stop-requires c κs = omega (arith, c .before .before .before .before .before .before .before .before .before .apply-nodes .kept .0, in-table (c .before .before .before .before .before .before .before .before .before .before .before .before .before .loop .inv .ready))
+stop-requires c κs =
+    let n = c .before .before .before .before .before .before .before .before .before in
+    omega (arith, n .apply-nodes .kept .0, in-table (n .before .before .before .before .before .loop .inv .ready))
 
 same-length : tie.Need-same-length Inv-loop μ-loop
-same-length c = c .before .before .before .before .stop .kept .0 ∙ c .before .before .before .before .before .before .before .before .before .before .before .before .before .before .apply-nodes .kept .0 ∙ c .before .before .before .before .before .before .before .before .before .before .before .before .before .before .before .before .before .before .loop .inv .same-table
+same-length c =
+    let e = c .before .before .before .before in
+    let n = e .before .before .before .before .before .before .before .before .before .before in
+    e .stop .kept .0 ∙ n .apply-nodes .kept .0 ∙ n .before .before .before .before .before .loop .inv .same-table
 
 same-length-2 : tie.Need-same-length-2 Inv-loop μ-loop
-same-length-2 c = c .before .before .before .before .stop .kept .1 .1 .0 ∙ c .before .before .before .before .before .before .before .before .before .before .before .before .before .before .apply-nodes .kept .1 .1 .0 ∙ c .before .before .before .before .before .before .before .before .before .before .before .before .before .before .before .before .before .before .loop .inv .same-stack
+same-length-2 c =
+    let e = c .before .before .before .before in
+    let n = e .before .before .before .before .before .before .before .before .before .before in
+    e .stop .kept .1 .1 .0 ∙ n .apply-nodes .kept .1 .1 .0 ∙ n .before .before .before .before .before .loop .inv .same-stack
 
 returns : tie.Need-returns Inv-loop μ-loop
-returns c = applies-stop (c .before .before .before .before .before .before .before .before .before .before .before .before .before .before .before .before .before .before .loop .inv) (c .before .before .before .before .before .before .before .before .before .before .before .before .before .before .before .before .before .loop-test .taken) (c .before .before .before .before .before .before .before .before .before .before .before .before .before .before .apply-nodes .ensures) (c .before .before .before .before .before .applied-refusal .ensures) (c .before .before .before .before .stop .ensures _)
+returns c =
+    let e = c .before .before .before .before in
+    let n = e .before .before .before .before .before .before .before .before .before .before in
+    let k = n .before .before .before in
+    applies-stop (k .before .before .loop .inv) (k .before .loop-test .taken) (rw (k .sum .ensures) at (n .apply-nodes .ensures))
+    (e .before .applied-refusal .ensures) (e .stop .ensures _)
 
-add-steps : tie.Need-add-steps Inv-loop μ-loop
-add-steps c = omega (arith, applies-steps (c .before .before .before .before .before .before .before .before .before .before .before .loop .inv) (c .before .before .before .before .before .before .before .before .before .before .loop-test .taken) (c .before .before .before .before .before .before .before .apply-nodes .ensures) (c .before .applied .given .1), c .before .before .before .before .before .before .before .before .before .before .before .loop .inv .limited)
+plus-requires : tie.Need-plus-requires Inv-loop μ-loop
+plus-requires c κs =
+    let n = c .before .before .before .before .before .before .before in
+    let k = n .before .before .before in
+    let i = k .before .before .loop .inv in
+    omega (arith, applies-steps i (k .before .loop-test .taken) (rw (k .sum .ensures) at (n .apply-nodes .ensures)) (c .before .applied .given .1), i .limited)
 
 add-done : tie.Need-add-done Inv-loop μ-loop
-add-done c = omega (arith, c .before .before .before .before .before .before .before .before .before .before .before .before .before .before .before .pre .3)
+add-done c =
+    let n = c .before .before .before .before .before .before .before .before in
+    omega (arith, n .before .before .before .before .before .before .before .before .before .pre .3)
 
 loop-less : tie.Need-loop-less Inv-loop μ-loop
 loop-less c = omega arith
 
 loop-again : tie.Need-loop-again Inv-loop μ-loop
-loop-again c = applies-next (c .before .before .before .before .before .before .before .before .before .before .before .loop .inv) (c .before .before .before .before .before .before .before .before .before .before .loop-test .taken) (c .before .before .before .before .before .before .before .apply-nodes .ensures) (c .before .applied .given .1) (c .before .before .before .before .before .before .before .apply-nodes .kept .1 .1 .0)
+loop-again c =
+    let n = c .before .before .before .before .before .before .before .before in
+    let k = n .before .before .before in
+    rw (c .plus .ensures)
+    (applies-next (k .before .before .loop .inv) (k .before .loop-test .taken) (rw (k .sum .ensures) at (n .apply-nodes .ensures))
+    (c .before .before .applied .given .1) (n .apply-nodes .kept .1 .1 .0))
 
 write-outcome-requires : tie.Need-write-outcome-requires Inv-loop μ-loop
-write-outcome-requires c κs = (c .before .before .before .before .loop .inv .ready, c .before .before .before .before .loop .inv .function-in)
+write-outcome-requires c κs =
+    let i = c .before .before .before .before .loop .inv in
+    (i .ready, i .function-in, omega (arith, i .within-limit, i .limited))
 
 same-length-3 : tie.Need-same-length-3 Inv-loop μ-loop
 same-length-3 c = c .before .before .before .before .before .before .write-outcome .kept .0 ∙ c .before .before .before .before .before .before .before .before .before .before .before .loop .inv .same-table
@@ -88,7 +118,8 @@ apply-all-spec =
     loop-holds
     mul-argument
     array-read-argument
-    sub-apply-nodes
+    sum-requires
+    sub-left
     apply-nodes-requires
     enum-known-applied
     enum-told
@@ -97,7 +128,7 @@ apply-all-spec =
     same-length
     same-length-2
     returns
-    add-steps
+    plus-requires
     add-done
     loop-less
     loop-again

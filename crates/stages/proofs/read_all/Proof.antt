@@ -5,6 +5,7 @@ use lib.ListN.{length-set}
 use mathlib.Core.Path.{_≡_, refl, sym, ap, _∙_}
 use native.Mathlib.Omega.{arith}
 use borrow.Author.Needs.{needs}
+use Rattle.calculus.specs.Uses.{noUses}
 use Rattle.packet.proofs.Parts.{next-field, part-value}
 use Rattle.running.specs.Run.{applies}
 use Rattle.stages.proofs.Ways.{made-not, in-table, Reading, reads-begin, reads-all, reads-end, reads-next, reads-stop}
@@ -12,7 +13,7 @@ use Rattle.stages.proofs.read_all.Statement.{statement}
 use Rattle.stages.proofs.read_all.Tie as tie
 
 abbrev Inv-loop : tie.InvT-loop
-Inv-loop table₀ used stack₀ out packet from work count nodes₀ at₀ in-use₀ kept₀ table stack nodes at in-use kept = Reading packet count out (λ ns w u s. applies ns (work .limit) w u s out (work .rule) 0) (work .rule) table₀ used stack₀ from table stack nodes at in-use kept
+Inv-loop table₀ used stack₀ out packet from work count nodes₀ at₀ in-use₀ kept₀ table stack nodes at in-use kept = Reading packet count out (λ ns w u s. applies ns (work .limit) w u s out (work .rule) noUses) (work .rule) table₀ used stack₀ from table stack nodes at in-use kept
 
 abbrev μ-loop : tie.MeasureT-loop
 μ-loop table₀ used stack₀ out packet from work count nodes₀ at₀ in-use₀ kept₀ table stack nodes at in-use kept = count - kept

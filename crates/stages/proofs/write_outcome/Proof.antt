@@ -31,6 +31,9 @@ same-length-3 c = search needs
 returns : tie.Need-returns
 returns c = stops-write _ (c .before .before .before .before .before .before .before .before .before .before .before .before .before .before .before .before .before .before .before .before .before .pre .0) (c .before .before .before .before .before .before .before .before .before .before .before .before .before .before .before .before .before .before .before .before .before .pre .1) (c .before .before .before .before .before .before .before .before .before .before .before .before .before .before .write-node .ensures) (c .before .before .before .before .before .written-refusal .ensures) (c .before .before .before .before .stop .ensures _)
 
+sum-requires : tie.Need-sum-requires
+sum-requires c κs = c .before .before .before .before .before .before .before .before .before .before .before .before .before .before .pre .2
+
 same-length-4 : tie.Need-same-length-4
 same-length-4 c = search needs
 
@@ -41,7 +44,10 @@ same-length-6 : tie.Need-same-length-6
 same-length-6 c = search needs
 
 returns-2 : tie.Need-returns-2
-returns-2 c = is-text _ (c .before .before .before .before .before .before .before .before .before .before .before .before .before .before .pre .0) (c .before .before .before .before .before .before .before .before .before .before .before .before .before .before .pre .1) (c .before .before .before .before .before .before .before .write-node .ensures) (c .before .written .given .1)
+returns-2 c =
+    let n = c .before .before .before .before .before .before .before .before in
+    let b = n .before .before .before .before .before .before .before in
+    is-text _ (b .pre .0) (b .pre .1) (n .write-node .ensures) (c .sum .ensures) (c .before .before .written .given .1)
 
 pub write-outcome-spec : {M : Type 1} → statement M
 write-outcome-spec =
@@ -56,6 +62,7 @@ write-outcome-spec =
     same-length-2
     same-length-3
     returns
+    sum-requires
     same-length-4
     same-length-5
     same-length-6
