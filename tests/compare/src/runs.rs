@@ -55,79 +55,78 @@ fn kept(before: &Memory, after: &Memory, answer: &Counted) -> bool {
     }
 }
 
-/// Runs a case and adds it to the counts. Gives the engine's answer, and false where it differs.
-fn check(random: &mut Random, noise: &Noise, case: &Case, counts: &mut Counts) -> (Counted, bool) {
-    let room = case.room;
-    let before = noise.memory(random, room.table, room.stack, room.out);
-    let mut engine = before.clone();
-    let answer = counted_of(lazvorn::run(
-        &mut engine.table,
-        &mut engine.stack,
-        &mut engine.out,
-        &case.packet,
-    ));
-    let mut expected = before.clone();
-    let modelled = model::run(&mut expected, &case.packet);
-    counts[modelled[0]] += 1;
-
-    let mut wrong = Vec::new();
-    let (ours, theirs) = (told(&answer, &engine.out), second_told(case));
-    if ours != theirs {
-        wrong.push(format!("engine: {ours:?}\nsecond: {theirs:?}"));
-    }
-    if answer != modelled {
-        wrong.push(format!("engine: {answer:?}\nmodel:  {modelled:?}"));
-    }
-    wrong.extend(difference(&engine, &expected));
-    if !kept(&before, &engine, &answer) {
-        wrong.push("memory is not as the answer's number says".to_string());
-    }
-    if !wrong.is_empty() {
-        println!("packet {}\nin {room:?}", hexadecimal(&case.packet));
-        println!("{}", wrong.join("\n"));
-    }
-    (answer, wrong.is_empty())
-}
-
-/// What came of so many packets: how often each refusal was met, in how many of those that succeeded
-/// each rule was used, and how many differ.
+/// What came of packets: how often each refusal was met, and 0 for success; in how many of those that
+/// succeeded each rule was used; and how many differ.
+#[derive(Default)]
 pub struct Compared {
     pub counts: Counts,
     pub using: [usize; 5],
     pub differences: usize,
 }
 
+impl Compared {
+    fn packets(&self) -> usize {
+        self.counts.iter().sum()
+    }
+
+    /// Runs a case and adds what came of it. Gives the engine's answer.
+    fn check(&mut self, random: &mut Random, noise: &Noise, case: &Case) -> Counted {
+        let room = case.room;
+        let before = noise.memory(random, room.table, room.stack, room.out);
+        let mut engine = before.clone();
+        let answer = counted_of(lazvorn::run(
+            &mut engine.table,
+            &mut engine.stack,
+            &mut engine.out,
+            &case.packet,
+        ));
+        let mut expected = before.clone();
+        let modelled = model::run(&mut expected, &case.packet);
+        let [refusal, _, _, _, _, uses @ ..] = modelled;
+        self.counts[refusal] += 1;
+        self.using = std::array::from_fn(|rule| self.using[rule] + usize::from(uses[rule] > 0));
+
+        let mut wrong = Vec::new();
+        let (ours, theirs) = (told(&answer, &engine.out), second_told(case));
+        if ours != theirs {
+            wrong.push(format!("engine: {ours:?}\nsecond: {theirs:?}"));
+        }
+        if answer != modelled {
+            wrong.push(format!("engine: {answer:?}\nmodel:  {modelled:?}"));
+        }
+        wrong.extend(difference(&engine, &expected));
+        if !kept(&before, &engine, &answer) {
+            wrong.push("memory is not as the answer's number says".to_string());
+        }
+        if !wrong.is_empty() {
+            println!("packet {}\nin {room:?}", hexadecimal(&case.packet));
+            println!("{}", wrong.join("\n"));
+            self.differences += 1;
+        }
+        answer
+    }
+}
+
+/// Runs so many packets, or a few more.
 pub fn compare(random: &mut Random, noise: &Noise, packets: usize) -> Compared {
-    let mut counts = [0; 11];
-    let mut using = [0; 5];
-    let mut differences = 0;
-    let mut done = 0;
-    while done < packets {
+    let mut compared = Compared::default();
+    while compared.packets() < packets {
         let case = packets::case(random);
-        let (answer, same) = check(random, noise, &case, &mut counts);
-        done += 1;
-        differences += usize::from(!same);
-        let [refusal, _, used, steps, digits, uses @ ..] = answer;
-        using = std::array::from_fn(|rule| using[rule] + usize::from(uses[rule] > 0));
+        let answer = compared.check(random, noise, &case);
+        let [refusal, _, used, steps, digits, ..] = answer;
         if refusal != 0 || case.parts.is_none() {
             continue;
         }
         for _ in 0..random.below(4) {
             let case = packets::at_border(random, &case, used, steps, digits);
-            differences += usize::from(!check(random, noise, &case, &mut counts).1);
-            done += 1;
+            compared.check(random, noise, &case);
         }
         if random.once_in(8) {
             let case = with_few_frames(random, &case);
-            differences += usize::from(!check(random, noise, &case, &mut counts).1);
-            done += 1;
+            compared.check(random, noise, &case);
         }
     }
-    Compared {
-        counts,
-        using,
-        differences,
-    }
+    compared
 }
 
 /// A case that succeeds, with just enough frames by the second evaluator, or one too few.
