@@ -37,13 +37,15 @@ enum {
     LAZVORN_USED = 2,    /* the count of used nodes after the call */
     LAZVORN_STEPS = 3,   /* the uses of the five rules */
     LAZVORN_DIGITS = 4,  /* the digits written to out */
-    LAZVORN_LEAF = 5,    /* of lazvorn_apply and lazvorn_run alone: the uses of the rule leaf, */
-    LAZVORN_STEM = 6,    /* of stem; on success each of these two made a node of its own, */
-    LAZVORN_DROP = 7,    /* of drop, */
-    LAZVORN_SPREAD = 8,  /* of spread, */
-    LAZVORN_TRIAGE = 9,  /* and of triage */
-    LAZVORN_COUNTED = 10 /* how many numbers these two calls write */
+    LAZVORN_LEAF = 5,    /* the uses of leaf; from here on of lazvorn_apply and lazvorn_run alone */
+    LAZVORN_STEM = 6,    /* the uses of stem; with those of leaf, the nodes that applying made */
+    LAZVORN_DROP = 7,    /* the uses of drop */
+    LAZVORN_SPREAD = 8,  /* the uses of spread */
+    LAZVORN_TRIAGE = 9   /* the uses of triage */
 };
+
+/* How many numbers lazvorn_apply and lazvorn_run write. */
+enum { LAZVORN_COUNTED = 10 };
 
 /* Refusals. */
 enum {
@@ -96,14 +98,14 @@ void lazvorn_translate(
 
 /* Applies one node to another. Gives node, used, steps and uses. Refusals 1, 2, 3, 7, 8, 9. */
 void lazvorn_apply(
-    uint32_t *table,   /* the table's words */
-    size_t table_len,  /* how many words */
-    size_t used,       /* nodes in use */
-    uint32_t *stack,   /* the stack's words */
-    size_t stack_len,  /* how many words */
-    size_t function,   /* the node applied */
-    size_t argument,   /* the node it is applied to */
-    size_t limit,      /* the step limit, at most 1,000,000 */
+    uint32_t *table,    /* the table's words */
+    size_t table_len,   /* how many words */
+    size_t used,        /* nodes in use */
+    uint32_t *stack,    /* the stack's words */
+    size_t stack_len,   /* how many words */
+    size_t function,    /* the node applied */
+    size_t argument,    /* the node it is applied to */
+    size_t limit,       /* the step limit, at most 1,000,000 */
     size_t answer[10]); /* the ten numbers */
 
 /* Labels a rule with a tree: seven new nodes. Gives node and used. Refusals 1, 2, 3, 8. */

@@ -16,7 +16,7 @@ static size_t field(size_t at, uint8_t tag, const void *value, size_t n) {
 
 int main(void) {
     static const char text[] = "\\p.\\q.p & !q";
-    size_t r[2], a[5];
+    size_t r[2], a[LAZVORN_COUNTED];
     lazvorn_rule_text((const uint8_t *)text, sizeof text - 1, rule, sizeof rule, r);
     if (r[0] != 0) return 1;
     size_t n = field(field(field(0, 1, rule, r[1]), 2, "10", 2), 2, "2021010", 7);

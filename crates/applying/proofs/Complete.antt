@@ -20,12 +20,12 @@ use Rattle.table.specs.declared.Refusal.the-variants.{Steps, Nodes, Frames}
 use Rattle.table.proofs.Trees.{kept-refl}
 use Rattle.table.proofs.Entry.{enters}
 use Rattle.applying.specs.declared.Applied.the-variants.{Node, Refused}
-use Rattle.applying.specs.Machine.{oneUse, State, Turn, more, done, stop, turn, after, uses}
+use Rattle.applying.specs.Machine.{oneUse, State, wanted, Turn, more, done, stop, turn, after, uses}
 use Rattle.applying.specs.Apply.{settle, begin, applyNodes, apply}
 use Rattle.applying.specs.Lacks.{Lacks, no-place, all-held}
 use Rattle.applying.specs.States.{Good}
 use Rattle.applying.specs.Claims.{Gives}
-use Rattle.applying.proofs.States.{tableOf, Later, turn-later, wanted, counted, Took, turn-took, one-step}
+use Rattle.applying.proofs.States.{tableOf, Later, turn-later, usesNext, Took, turn-took, one-step}
 use Rattle.applying.proofs.Leads.{Leads, TurnLeads, leads-same, leads-after, uses-some, and-then}
 use Rattle.applying.proofs.Cases.{Ways, refused, ran, ways, checks-keep, good-begin}
 use Rattle.applying.proofs.Stops.{stop-lacks}
@@ -45,7 +45,7 @@ uses-end (suc m) {all} {s} g o k x h =
     go (turn all s) l (turn-took all s) (i .0) (i .1) (i .2)
     (λ (z : State) (y : Good all z) (d : Leads (z .table .words) z o (i .0)). uses-end m y o (i .0) d (omega (arith, ap steps (i .2), one-step (wanted s) .0)))
   where
-    go : (x : Turn) → Later all (s .table) x → Took (counted s) x → (j : Uses) → TurnLeads (tableOf x .words) o j (Unit {0}) x → k ≡ oneUse (wanted s) ⊕ j
+    go : (x : Turn) → Later all (s .table) x → Took (usesNext s) x → (j : Uses) → TurnLeads (tableOf x .words) o j (Unit {0}) x → k ≡ oneUse (wanted s) ⊕ j
         → ((z : State) → Good all z → Leads (z .table .words) z o j → Ends o (z .uses ⊕ j) (uses all m z))
         → Ends o (s .uses ⊕ k) (after (uses all m) x)
     go (more z) l t j d e r =
@@ -57,7 +57,7 @@ uses-end (suc m) {all} {s} g o k x h =
         (d .0, t ∙ ap (λ (x : Uses). s .uses ⊕ x) (sym q))
     go (stop c t) l x j d e r = tt
 
--- Where the rules give a tree in at most `limit` uses, Apply gives that tree in as many steps or stops for nodes or frames: "Then 7, 8, 9 as the
+-- Where the rules give a tree in at most `limit` uses, Apply gives that tree with the same uses or stops for nodes or frames: "Then 7, 8, 9 as the
 -- rules say."
 pub apply-complete : {w : List ℕ} {u : ℕ} {s : List ℕ} {f n limit : ℕ} → Entered (leb limit 1000000) w u s → f < u → n < u
     → {r : Tree} {k : Uses} → Apply (treeAt w f) (treeAt w n) r k → steps k ≤ limit

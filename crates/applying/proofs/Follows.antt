@@ -12,16 +12,18 @@ use Rattle.calculus.proofs.Counts.{uses-none, none-uses, uses-assoc}
 use Rattle.calculus.proofs.Unique.{apply-unique}
 use Rattle.table.specs.Nodes.{Table, Placed, treeAt}
 use Rattle.table.specs.Outcome.{Entered, frames, stopped}
+use Rattle.table.specs.Refusal.{refusedNumbers}
 use Rattle.table.specs.declared.Refusal.{Refusal}
 use Rattle.table.specs.Claims.{Kept}
 use Rattle.table.proofs.Trees.{kept-refl, kept-tree}
 use Rattle.table.proofs.Entry.{enters, stopped-kept}
+use Rattle.applying.specs.declared.Applied.{Applied}
 use Rattle.applying.specs.declared.Applied.the-variants.{Node, Refused}
-use Rattle.applying.specs.Machine.{oneUse, State, Turn, more, done, stop, turn, after, uses}
-use Rattle.applying.specs.Apply.{settle, begin, apply}
+use Rattle.applying.specs.Machine.{oneUse, State, wanted, Turn, more, done, stop, turn, after, uses}
+use Rattle.applying.specs.Apply.{appliedNumbers, appliedUses, settle, begin, apply}
 use Rattle.applying.specs.States.{Good}
 pub use Rattle.applying.specs.Claims.{Follows}
-use Rattle.applying.proofs.States.{tableOf, Later, turn-later, uses-later, wanted, counted, Took, turn-took, Counted, uses-steps, New, uses-new}
+use Rattle.applying.proofs.States.{tableOf, Later, turn-later, uses-later, usesNext, Took, turn-took, Counted, uses-steps, New, uses-new}
 use Rattle.applying.proofs.Leads.{Leads, TurnLeads, leads-before}
 use Rattle.applying.proofs.Cases.{Ways, refused, ran, ways, good-begin}
 
@@ -29,14 +31,14 @@ use Rattle.applying.proofs.Cases.{Ways, refused, ran, ways, good-begin}
 pub record Ran (s : State) (p : Placed) (j : Uses) : Type 0 where
   pub taken : Uses
   pub leads : Leads (p .table .words) s (treeAt (p .table .words) (p .node)) taken
-  pub counted-all : j ≡ s .uses ⊕ taken
+  pub counted : j ≡ s .uses ⊕ taken
 
 -- the same of a turn x that the run came to from s
 record After (s : State) (x : Turn) (p : Placed) (j : Uses) : Type 0 where
   left : Uses
   leads : TurnLeads (p .table .words) (treeAt (p .table .words) (p .node)) left ⊥ x
   kept : Kept (tableOf x) (p .table)
-  counted-all : j ≡ counted s ⊕ left
+  counted : j ≡ usesNext s ⊕ left
 
 -- A run that comes to an outcome follows the five rules from its state on: "Applying program f to program N", with the uses that it counts.
 pub uses-follow : (k : ℕ) {all : ℕ} {s : State} → Good all s → (p : Placed) (j : Uses) → uses all k s ≡ done p j → Ran s p j
@@ -48,20 +50,20 @@ uses-follow (suc k) {all} {s} g p j e =
     record {
       taken = oneUse (wanted s) ⊕ a .left;
       leads = leads-before g (l .fine) (a .kept) _ (a .left) (a .leads);
-      counted-all = a .counted-all ∙ uses-assoc (s .uses) (oneUse (wanted s)) (a .left);
+      counted = a .counted ∙ uses-assoc (s .uses) (oneUse (wanted s)) (a .left);
     }
   where
-    go : (x : Turn) → Later all (s .table) x → Took (counted s) x → ((z : State) → Good all z → uses all k z ≡ done p j → Ran z p j)
+    go : (x : Turn) → Later all (s .table) x → Took (usesNext s) x → ((z : State) → Good all z → uses all k z ≡ done p j → Ran z p j)
         → after (uses all k) x ≡ done p j → After s x p j
     go (more z) l t r q =
         let a = r z (l .ready) q in
         let m : Later all (z .table) (done p j) = subst (Later all (z .table)) q (uses-later k (l .ready)) in
-        record { left = a .taken; leads = a .leads; kept = m .extends .kept; counted-all = a .counted-all ∙ ap (λ (x : Uses). x ⊕ a .taken) t }
+        record { left = a .taken; leads = a .leads; kept = m .extends .kept; counted = a .counted ∙ ap (λ (x : Uses). x ⊕ a .taken) t }
     go (done v i) l t r q =
         let a : v ≡ p = cc in
         let b : j ≡ i = cc in
         let c : treeAt (p .table .words) (v .node) ≡ treeAt (p .table .words) (p .node) = rw a in
-        record { left = noUses; leads = (c, refl); kept = rw a (kept-refl (p .table)); counted-all = b ∙ t ∙ sym (uses-none (counted s)) }
+        record { left = noUses; leads = (c, refl); kept = rw a (kept-refl (p .table)); counted = b ∙ t ∙ sym (uses-none (usesNext s)) }
     go (stop d t) l x r q = let n : _≡_ {A = ℕ} 0 1 = cc in absurd (omega arith)
 
 apply-by : {f g n m r o : Tree} {j k : Uses} → f ≡ g → n ≡ m → r ≡ o → j ≡ k → Apply f n r j → Apply g m o k
@@ -72,9 +74,9 @@ alone : {j t a l : Uses} → j ≡ noUses ⊕ t → t ≡ a ⊕ l → l ≡ noUs
 alone {t = t} {a = a} p q r = sym (uses-none a) ∙ ap (λ (x : Uses). a ⊕ x) (sym r) ∙ sym q ∙ sym (none-uses t) ∙ sym p
 
 module _ (w : List ℕ) (u : ℕ) (s : List ℕ) (f n limit : ℕ) where
-  settle-follows : (v u′ i : ℕ) (k : Uses) → Entered (leb limit 1000000) w u s → f < u → n < u
+  settle-follows : (v u′ m : ℕ) (k : Uses) → Entered (leb limit 1000000) w u s → f < u → n < u
       → (x : Turn) → uses (frames s) limit (begin w u f n) ≡ x → apply w u s f n limit ≡ settle u s x
-      → settle u s x .answer ≡ Node v u′ i k → Follows w u s f n limit v u′ i k
+      → settle u s x .answer ≡ Node v u′ m k → Follows w u s f n limit v u′ m k
   unfolding settle stopped
   settle-follows v u′ m k i h l (more z) q r e = let c : _≡_ {A = ℕ} 0 1 = cc in absurd (omega arith)
   settle-follows v u′ m k i h l (stop d t) q r e = let c : _≡_ {A = ℕ} 0 1 = cc in absurd (omega arith)
@@ -90,12 +92,15 @@ module _ (w : List ℕ) (u : ℕ) (s : List ℕ) (f n limit : ℕ) where
       let o : steps j ≡ m = cc in
       let same : (i : ℕ) → i < u → treeAt (p .table .words) i ≡ treeAt w i = kept-tree (i .table) (y .extends .kept) in
       let goes = z .leads .goes in
-      let all : z .leads .taken ≡ k = alone (z .counted-all) (z .leads .counted) (goes .1) ∙ d in
+      let all : z .leads .taken ≡ k = alone (z .counted) (z .leads .counted) (goes .1) ∙ d in
+      let x : Apply (treeAt w f) (treeAt w n) (treeAt (apply w u s f n limit .table) v) k =
+      rw r (apply-by (same f h) (same n l) (goes .0 ∙ ap (treeAt (p .table .words)) a) all (z .leads .applies)) in
       record {
         entered = enters i;
         function-in = h;
         argument-in = l;
-        applies = rw r (apply-by (same f h) (same n l) (goes .0 ∙ ap (treeAt (p .table .words)) a) all (z .leads .applies));
+        applies = x;
+        only = λ d. apply-unique d x .1;
         steps-are = omega (arith, ap steps d);
         within-limit = omega (arith, c .1);
         used-is = omega (arith, new, ap newNodes d);
@@ -116,9 +121,14 @@ module _ (w : List ℕ) (u : ℕ) (s : List ℕ) (f n limit : ℕ) where
       go (refused c q) = let a : _≡_ {A = ℕ} 0 1 = cc in absurd (omega arith)
       go (ran i h l q) = settle-follows v u′ j k i h l (uses (frames s) limit (begin w u f n)) refl q (rw q at e)
 
-  -- The counts that Apply returns are those of every application of the one program to the other by the five rules: there is but one of each.
-  pub apply-counts : (v u′ j : ℕ) (k : Uses) → apply w u s f n limit .answer ≡ Node v u′ j k → {r : Tree} {i : Uses} → Apply (treeAt w f) (treeAt w n) r i → k ≡ i
-  apply-counts v u′ j k e x = apply-unique (apply-follows v u′ j k e .applies) x .1
+  -- "Their sum is the steps" ([5]), refused or not
+  pub apply-sum : appliedNumbers u (apply w u s f n limit .answer) .steps ≡ steps (appliedUses (apply w u s f n limit .answer))
+  unfolding appliedNumbers appliedUses refusedNumbers
+  apply-sum = go (apply w u s f n limit .answer) refl
+    where
+      go : (a : Applied) → apply w u s f n limit .answer ≡ a → appliedNumbers u a .steps ≡ steps (appliedUses a)
+      go (Node v u′ j k) e = apply-follows v u′ j k e .steps-are
+      go (Refused d) e = refl
 
   -- A refused application leaves the nodes in use as they were: "Numbers 1 to 6 [..] leave lent memory as found. Numbers 7 to 10 set to 0 the words
   -- of the nodes made in the call".

@@ -10,7 +10,7 @@ use Rattle.calculus.specs.Tree.{Tree, leaf, stem, fork}
 use Rattle.calculus.specs.declared.Uses.{Uses}
 use Rattle.calculus.specs.Uses.{noUses, oneLeaf, oneStem, oneDrop, oneSpread, oneTriage, _⊕_, steps}
 use Rattle.calculus.specs.Rules.{Apply, by-leaf, by-stem, by-drop, by-spread, by-triage}
-use Rattle.calculus.proofs.Counts.{same-uses}
+use Rattle.calculus.proofs.Counts.{uses-assoc}
 use Rattle.table.specs.Nodes.{Table, capacity, first, second, Sound, treeAt, make}
 use Rattle.table.specs.Claims.{Has, Kept, Places}
 use Rattle.table.proofs.Words.{sound-node}
@@ -20,9 +20,9 @@ use Rattle.applying.specs.declared.Rule.{Rule}
 use Rattle.applying.specs.declared.Rule.the-variants.{Leaf, Stem, Drop, Spread, Triage}
 use Rattle.applying.specs.declared.Frame.{Frame}
 use Rattle.applying.specs.declared.Frame.the-variants.{SpreadFirst, SpreadSecond, TriageFirst}
-use Rattle.applying.specs.Machine.{forkRule, rule, oneUse, State, Turn, more, done, stop, resume, grow, hold, useRule, turn}
+use Rattle.applying.specs.Machine.{forkRule, rule, oneUse, State, wanted, Turn, more, done, stop, resume, grow, hold, useRule, turn}
 use Rattle.applying.specs.States.{Good, FramesIn, TreeBy}
-use Rattle.applying.proofs.States.{cond-by, words-by, RuleIn, rule-in, tableOf, turn-later, wanted, counted}
+use Rattle.applying.proofs.States.{cond-by, words-by, RuleIn, rule-in, tableOf, turn-later, usesNext}
 
 -- f is applied to n, and P goes on from the outcome; k are the uses of all that
 pub record Then (f n : Tree) (P : Tree → Uses → Type 0) (k : Uses) : Type 0 where
@@ -62,11 +62,11 @@ firstUse (fork (stem p) y) = oneSpread
 firstUse (fork (fork p q) y) = oneTriage
 
 -- the uses of spread and of triage, in the order in which they are taken
-in-spread : (o a b c d : Uses) → o ⊕ a ⊕ b ⊕ c ⊕ d ≡ o ⊕ (a ⊕ (b ⊕ (c ⊕ d)))
-in-spread o a b c d = same-uses (omega arith) (omega arith) (omega arith) (omega arith) (omega arith)
-
 in-triage : (o a b d : Uses) → o ⊕ a ⊕ b ⊕ d ≡ o ⊕ (a ⊕ (b ⊕ d))
-in-triage o a b d = same-uses (omega arith) (omega arith) (omega arith) (omega arith) (omega arith)
+in-triage o a b d = uses-assoc (o ⊕ a) b d ∙ uses-assoc o a (b ⊕ d)
+
+in-spread : (o a b c d : Uses) → o ⊕ a ⊕ b ⊕ c ⊕ d ≡ o ⊕ (a ⊕ (b ⊕ (c ⊕ d)))
+in-spread o a b c d = in-triage (o ⊕ a) b c d ∙ uses-assoc o a (b ⊕ (c ⊕ d))
 
 -- An application is its first use and what that leaves: "Each use is one step, counted when taken, before the applications under it."
 pub first-use : {f n : Tree} {P : Tree → Uses → Type 0} {k : Uses} → Then f n P k → (j : Uses) × Use f n P j × (k ≡ firstUse f ⊕ j)
@@ -205,7 +205,7 @@ module _ {all : ℕ} {s : State} (g : Good all s) {y : Table} (fine : Sound y) (
   turn-leads : Kept (tableOf (turn all s)) y → TurnLeads (y .words) o k (Left (tree (s .function))) (turn all s) ≡ Left (tree (s .function))
   unfolding turn
   turn-leads =
-      use-leads (counted s) (wanted s) (tree (s .function)) (rule-in (g .fine) (s .function) (g .function-in))
+      use-leads (usesNext s) (wanted s) (tree (s .function)) (rule-in (g .fine) (s .function) (g .function-in))
       (rw (← same-rule (g .fine) kept (s .function) (g .function-in)) (tree-by fine (s .function) (omega (arith, g .function-in, kept .up))))
 
 -- the first use of a tree is that of the rule that is taken for it

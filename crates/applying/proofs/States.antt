@@ -1,6 +1,6 @@
 -- What holds of every state of an application, what a use of a rule leads to, and how uses add up. Assumes nothing.
 use Prim.Native.Nat.{ℕ, zero, suc, _+_, _-_, _≤_, _<_}
-use mathlib.Core.Path.{_≡_, refl, ap, _∙_}
+use mathlib.Core.Path.{_≡_, refl, ap}
 use mathlib.Core.Bool.{Bool, true, false, cond}
 use mathlib.Core.List.{List, [], _∷_}
 use native.Mathlib.Omega.{arith}
@@ -23,7 +23,7 @@ use Rattle.applying.specs.declared.Frame.{Frame}
 use Rattle.applying.specs.declared.Frame.the-variants.{SpreadFirst, SpreadSecond, TriageFirst}
 use Rattle.applying.specs.States.{FrameIn, FramesIn, Good}
 pub use Rattle.applying.specs.States.{tableOf, Counted}
-use Rattle.applying.specs.Machine.{forkRule, rule, needsNode, needsFrame, oneUse, State, Turn, more, done, stop, resume, grow, hold, useRule, turn, after, uses, madeAfter, made}
+use Rattle.applying.specs.Machine.{forkRule, rule, needsNode, needsFrame, oneUse, State, wanted, Turn, more, done, stop, resume, grow, hold, useRule, turn, after, uses, madeAfter, made}
 
 -- a choice by a test, with what the test says
 pub cond-by {ℓ} : {A : Type 0} (P : A → Type ℓ) (b : Bool) {x y : A} → (b ≡ true → P x) → (b ≡ false → P y) → P (cond b x y)
@@ -127,7 +127,7 @@ module _ {all : ℕ} {s : State} (g : Good all s) where
 -- changes" (Operations).
 pub turn-later : {all : ℕ} {s : State} → Good all s → Later all (s .table) (turn all s)
 unfolding turn
-turn-later {all} {s} g = use-later g _ (rule (s .table .words) (s .function)) (rule-in (g .fine) (s .function) (g .function-in))
+turn-later {all} {s} g = use-later g _ (wanted s) (rule-in (g .fine) (s .function) (g .function-in))
 
 later-trans : {all : ℕ} {t z : Table} {x : Turn} → Extends t z → Later all z x → Later all t x
 later-trans e l = record { fine = l .fine; extends = extends-trans e (l .extends); ready = l .ready }
@@ -164,29 +164,26 @@ module _ (all : ℕ) (s : State) (k : Uses) (P : Turn → Type 0) (goes-on : (z 
   use-by (Spread p y) a b = cond-by P (ltb (length (s .frames)) all) (λ e. goes-on _ refl) (λ e. b refl (ltb-false _ _ e))
   use-by (Triage p q) a b = cond-by P (ltb (length (s .frames)) all) (λ e. goes-on _ refl) (λ e. b refl (ltb-false _ _ e))
 
--- the rule that a state takes, and its uses with the one of that rule
-abbrev pub wanted : State → Rule
-wanted s = rule (s .table .words) (s .function)
+-- the uses once the next one is taken
+abbrev pub usesNext : State → Uses
+usesNext s = s .uses ⊕ oneUse (wanted s)
 
-abbrev pub counted : State → Uses
-counted s = s .uses ⊕ oneUse (wanted s)
-
-pub turn-by : (all : ℕ) (s : State) (P : Turn → Type 0) → ((z : State) → z .uses ≡ counted s → P (more z)) → ((p : Placed) → P (done p (counted s)))
+pub turn-by : (all : ℕ) (s : State) (P : Turn → Type 0) → ((z : State) → z .uses ≡ usesNext s → P (more z)) → ((p : Placed) → P (done p (usesNext s)))
     → (needsNode (wanted s) ≡ true → capacity (s .table .words) ≤ s .table .used → P (stop Nodes (s .table)))
     → (needsFrame (wanted s) ≡ true → all ≤ length (s .frames) → P (stop Frames (s .table)))
     → P (turn all s)
 unfolding turn
-turn-by all s P goes-on ends = use-by all s (counted s) P goes-on ends (wanted s)
+turn-by all s P goes-on ends = use-by all s (usesNext s) P goes-on ends (wanted s)
 
--- a turn counted the uses k
+-- the uses that a turn has counted are k
 abbrev pub Took : Uses → Turn → Type 0
 Took k (more z) = z .uses ≡ k
 Took k (done p j) = j ≡ k
 Took k (stop e t) = Unit {0}
 
 -- "Each use of a rule tells which of the five it was." ([5])
-pub turn-took : (all : ℕ) (s : State) → Took (counted s) (turn all s)
-turn-took all s = turn-by all s (Took (counted s)) (λ z e. e) (λ p. refl) (λ a b. tt) (λ a b. tt)
+pub turn-took : (all : ℕ) (s : State) → Took (usesNext s) (turn all s)
+turn-took all s = turn-by all s (Took (usesNext s)) (λ z e. e) (λ p. refl) (λ a b. tt) (λ a b. tt)
 
 -- one use of a rule is one step, and makes a node where the rule needs one
 pub one-step : (r : Rule) → (steps (oneUse r) ≡ 1) × (newNodes (oneUse r) ≡ cond (needsNode r) 1 0)
@@ -201,7 +198,7 @@ one-step (Triage p q) = (refl, refl)
 pub turn-steps : (all : ℕ) (s : State) → Counted (steps (s .uses)) 1 (turn all s)
 turn-steps all s = go (turn all s) (turn-took all s) (one-step (wanted s) .0)
   where
-    go : (x : Turn) → Took (counted s) x → steps (oneUse (wanted s)) ≡ 1 → Counted (steps (s .uses)) 1 x
+    go : (x : Turn) → Took (usesNext s) x → steps (oneUse (wanted s)) ≡ 1 → Counted (steps (s .uses)) 1 x
     go (more z) t o = omega (arith, ap steps t)
     go (done p j) t o = omega (arith, ap steps t)
     go (stop e t) x o = tt
@@ -256,7 +253,7 @@ module _ (all : ℕ) (s : State) where
 
   turn-grew : Grew (cond (needsNode (wanted s)) 1 0) (turn all s)
   unfolding turn
-  turn-grew = use-grew (counted s) (wanted s)
+  turn-grew = use-grew (usesNext s) (wanted s)
 
 -- "leaf: [..] one new node. stem: [..] one new node.": the nodes in use after at most k uses are those before and those made.
 pub uses-made : (all k : ℕ) (s : State) → tableOf (uses all k s) .used ≡ s .table .used + made all k s
@@ -270,7 +267,7 @@ uses-made all (suc k) s = go _ (turn all s) (turn-grew all s) (uses-made all k)
     go n (done p j) e r = e
     go n (stop c t) e r = e
 
--- the nodes in use since the state s are more by those of the uses counted since
+-- the nodes in use are more than in the state s by one for each use of leaf and stem counted since
 abbrev pub New : State → Turn → Type 0
 New s (more z) = z .table .used + newNodes (s .uses) ≡ s .table .used + newNodes (z .uses)
 New s (done p j) = p .table .used + newNodes (s .uses) ≡ s .table .used + newNodes j
@@ -280,7 +277,7 @@ turn-new : (all : ℕ) (s : State) → New s (turn all s)
 unfolding madeAfter
 turn-new all s = go (turn all s) (turn-took all s) (turn-grew all s) (one-step (wanted s) .1)
   where
-    go : (x : Turn) → Took (counted s) x → Grew all s (cond (needsNode (wanted s)) 1 0) x → newNodes (oneUse (wanted s)) ≡ cond (needsNode (wanted s)) 1 0 → New s x
+    go : (x : Turn) → Took (usesNext s) x → Grew all s (cond (needsNode (wanted s)) 1 0) x → newNodes (oneUse (wanted s)) ≡ cond (needsNode (wanted s)) 1 0 → New s x
     go (more z) t g o = omega (arith, ap newNodes t)
     go (done p j) t g o = omega (arith, ap newNodes t)
     go (stop e t) x g o = tt

@@ -1,4 +1,4 @@
--- Worked examples of Apply, every word of the outcome: they pin the order of the new nodes, which no law of trees and steps sees. Assumes nothing.
+-- Worked examples of Apply, every word of the outcome: they pin the order of the new nodes, which no law of trees and uses sees. Assumes nothing.
 use Prim.Native.Nat.{ℕ}
 use mathlib.Core.Path.{_≡_, refl}
 use mathlib.Core.List.{List, [], _∷_, _++_, map}

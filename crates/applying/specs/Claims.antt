@@ -23,6 +23,8 @@ pub record Follows (w : List ℕ) (u : ℕ) (s : List ℕ) (f n limit v u′ j :
   pub function-in : f < u
   pub argument-in : n < u
   pub applies : Apply (treeAt w f) (treeAt w n) (treeAt (apply w u s f n limit .table) v) k
+  -- the uses of every application of the one program to the other by the five rules are these
+  pub only : {r : Tree} {i : Uses} → Apply (treeAt w f) (treeAt w n) r i → i ≡ k
   pub steps-are : j ≡ steps k
   pub within-limit : j ≤ limit
   pub used-is : u′ ≡ u + newNodes k

@@ -12,14 +12,14 @@ use Rattle.table.specs.Outcome.{frames, zeros, atEntry}
 use Rattle.table.specs.Claims.{EntryLacks}
 use Rattle.table.specs.declared.Refusal.{Refusal}
 use Rattle.table.specs.declared.Refusal.the-variants.{Node, Steps, Nodes, Frames}
-use Rattle.applying.specs.Machine.{rule, needsNode, needsFrame, State, more, uses, made}
+use Rattle.applying.specs.Machine.{needsNode, needsFrame, State, wanted, more, uses, made}
 use Rattle.applying.specs.Apply.{begin}
 
 -- What the next use of the state z lacks, where `all` frames are lent: "8 if a new node has no place; then 9 if a frame is needed and all are
 -- held" (The five rules). No other refusal is for such a lack.
 pub data Lacks (all : ℕ) (z : State) : Refusal → Type 0 where
-  no-place : needsNode (rule (z .table .words) (z .function)) ≡ true → capacity (z .table .words) ≤ z .table .used → Lacks all z Nodes
-  all-held : needsFrame (rule (z .table .words) (z .function)) ≡ true → all ≤ length (z .frames) → Lacks all z Frames
+  no-place : needsNode (wanted z) ≡ true → capacity (z .table .words) ≤ z .table .used → Lacks all z Nodes
+  all-held : needsFrame (wanted z) ≡ true → all ≤ length (z .frames) → Lacks all z Frames
 
 -- Where the uses from s on stop: "Before each use: refusal 7 if the step limit is reached; then 8 [..] then 9". Either all `limit` uses were taken
 -- and a further application is left, or fewer were, and the next lacks something.

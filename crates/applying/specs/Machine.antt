@@ -80,7 +80,8 @@ grow s k a b =
     (resume (make (s .table) a b .table) (s .frames) k (make (s .table) a b .node))
     (stop Nodes (s .table))
 
--- "then 9 if a frame is needed and all are held": node f is applied to node n, and the frame e is held meanwhile
+-- "then 9 if a frame is needed and all are held": node f is applied to node n, and the frame e is held meanwhile; k are the uses with
+-- this one
 unfoldable pub hold : ℕ → State → Uses → Frame → ℕ → ℕ → Turn
 hold all s k e f n =
     cond (ltb (length (s .frames)) all)
@@ -95,9 +96,13 @@ useRule all s k (Drop y) = resume (s .table) (s .frames) k y
 useRule all s k (Spread p y) = hold all s k (SpreadFirst p (s .argument)) y (s .argument)
 useRule all s k (Triage p q) = hold all s k (TriageFirst q) (s .argument) p
 
+-- the rule that a state takes next
+abbrev pub wanted : State → Rule
+wanted s = rule (s .table .words) (s .function)
+
 -- "Each use is one step, counted when taken, before the applications under it."
 unfoldable pub turn : ℕ → State → Turn
-turn all s = let r = rule (s .table .words) (s .function) in useRule all s (s .uses ⊕ oneUse r) r
+turn all s = useRule all s (s .uses ⊕ oneUse (wanted s)) (wanted s)
 
 unfoldable pub after : (State → Turn) → Turn → Turn
 after go (more s) = go s
@@ -118,4 +123,4 @@ madeAfter rest n (stop e t) = 0
 
 unfoldable pub made : ℕ → ℕ → State → ℕ
 made all zero s = 0
-made all (suc k) s = madeAfter (made all k) (cond (needsNode (rule (s .table .words) (s .function))) 1 0) (turn all s)
+made all (suc k) s = madeAfter (made all k) (cond (needsNode (wanted s)) 1 0) (turn all s)

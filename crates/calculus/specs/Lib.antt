@@ -1,4 +1,4 @@
--- Trees, rules, terms, abstraction and the two runs. Assumes nothing: these are definitions.
+-- Trees, uses, rules, terms, abstraction and the two runs. Assumes nothing: these are definitions.
 pub mod Tree
 pub mod Uses
 pub mod Rules

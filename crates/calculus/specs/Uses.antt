@@ -42,11 +42,11 @@ a ⊕ b =
 abbrev pub steps : Uses → ℕ
 steps u = u .leaf + u .stem + u .drop + u .spread + u .triage
 
--- "leaf: [..] one new node. stem: [..] one new node." (The five rules of document 01) The other rules make none of their own.
+-- "leaf: [..] one new node. stem: [..] one new node." (The five rules of document 01) "leaf plus stem is the number of nodes made by Apply" ([5])
 abbrev pub newNodes : Uses → ℕ
 newNodes u = u .leaf + u .stem
 
--- what P says of some uses, which are k steps
+-- P holds of some uses, and their sum is k: "The steps are the uses" (The two runs of demand 3, document 01)
 pub record InSteps (P : Uses → Type 0) (k : ℕ) : Type 0 where
   pub uses : Uses
   pub gives : P uses

@@ -23,7 +23,7 @@ in-both a b = same-uses (omega arith) (omega arith) (omega arith) (omega arith) 
 pub label-steps : steps labelUses ≡ 5
 label-steps = refl
 
--- Branch-first, where the label t ends on the argument too, the labelled tree gives what the rule f gives, in five steps more than both.
+-- Branch-first, where the label t ends on the argument too, the labelled tree gives what the rule f gives, with the uses of both and five more.
 pub labelled-gives : {f t N r x : Tree} {a b : Uses} → Apply f N r a → Apply t N x b → Apply (labelled f t) N r (a ⊕ b ⊕ labelUses)
 labelled-gives {a = a} {b = b} p q = subst (Apply _ _ _) (in-both a b) (by-spread (by-spread by-drop p by-stem) q by-drop)
 

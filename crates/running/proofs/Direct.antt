@@ -7,6 +7,7 @@ use native.Mathlib.Omega.{arith}
 use lib.ListN.{length, drop}
 use lib.Seq.{take-at}
 use Rattle.table.specs.Outcome.{Outcome}
+use Rattle.table.specs.Refusal.{refusedNumbers}
 use Rattle.calculus.specs.Tree.{Tree}
 use Rattle.calculus.specs.declared.Uses.{Uses}
 use Rattle.calculus.specs.Uses.{steps, InSteps}
@@ -15,6 +16,7 @@ use Rattle.calculus.specs.Term.{Term}
 use Rattle.calculus.specs.Bytes.{rule}
 use Rattle.calculus.specs.Abstraction.{ruleTree}
 use Rattle.calculus.specs.Runs.{Translated}
+use Rattle.calculus.proofs.Unique.{applyAll-unique}
 use Rattle.calculus.proofs.Rule.{rule-leads}
 use Rattle.calculus.proofs.Demand3.{demand-3}
 use Rattle.ternary.specs.Text.{text, treeOf}
@@ -25,7 +27,7 @@ use Rattle.fields.specs.Packet.{Packet}
 use Rattle.running.specs.Run.{run, ranNumbers, ranUses}
 use Rattle.running.specs.Claims.{Checked, Completes}
 use Rattle.running.specs.declared.Ran.{Ran}
-use Rattle.running.specs.declared.Ran.the-variants.{Text}
+use Rattle.running.specs.declared.Ran.the-variants.{Text, Refused}
 use Rattle.running.proofs.Outcomes.{Staged, stops, ends}
 use Rattle.running.proofs.Checks.{run-checked, Checks, fails, passes, checks}
 use Rattle.running.proofs.Refused.{refuses-with}
@@ -39,7 +41,7 @@ trees-of (l ∷ ls) (x ∷ xs) e = let h = readable-some l x (cc) .tree-of in le
 
 module _ (w s o l : List ℕ) (m u n : ℕ) (k : Uses) where
   -- "Run a packet": where Run writes a text, with one argument or more it is that of the tree that the direct run of the packet's rule on its arguments
-  -- ends in; with one argument the steps are the direct run's plus 2L + 5X − 1.
+  -- ends in; with one argument the steps are the direct run's plus 2L + 5X − 1. "Their sum is the steps" ([5]), and the uses are the sums over its arguments.
   pub run-direct : run w s o l .answer ≡ Text m u n k → Completes w s o l m u n k
   unfolding Translated ranNumbers ranUses
   run-direct q = go (checks w s o l)
@@ -58,7 +60,7 @@ module _ (w s o l : List ℕ) (m u n : ℕ) (k : Uses) where
           let rules = c .is-rule in
           record {
             numbers = rw q;
-            counts = rw q;
+            uses-are = rw q;
             steps-are = i;
             sent = p;
             is-packet = c .is-packet;
@@ -71,6 +73,7 @@ module _ (w s o l : List ℕ) (m u n : ℕ) (k : Uses) where
             written = rw out (take-at (text r) (drop n o) n (sym d));
             out-is = out;
             translated = x;
+            only = λ d. applyAll-unique d x .1;
             within-limit = omega (arith, h .within-limit, ap steps a);
             direct = λ low high. demand-3 (p .rule) t rules args low high r .0 .0 (m, y);
             steps = λ one j d. demand-3 (p .rule) t rules args (omega arith) (omega (arith, rule-leads (p .rule) rules)) r .1 m j one y d;
@@ -84,3 +87,12 @@ module _ (w s o l : List ℕ) (m u n : ℕ) (k : Uses) where
       go : Checks w s o l → Completes w s o l m u n k
       go (fails r) = zero-one (cc (refuses-with r))
       go (passes c) = of-stages c (run-checked c)
+
+-- "Their sum is the steps" ([5]), refused or not
+pub run-sum : (w s o l : List ℕ) → ranNumbers (run w s o l .answer) .steps ≡ steps (ranUses (run w s o l .answer))
+unfolding ranNumbers ranUses refusedNumbers
+run-sum w s o l = go (run w s o l .answer) refl
+  where
+    go : (a : Ran) → run w s o l .answer ≡ a → ranNumbers a .steps ≡ steps (ranUses a)
+    go (Text j u n k) e = run-direct w s o l j u n k e .steps-are
+    go (Refused d) e = refl

@@ -15,7 +15,7 @@ use Rattle.ternary.specs.Text.{treeOf}
 use Rattle.table.proofs.Words.{zero-one}
 use Rattle.fields.specs.Packet.{Packet, packet}
 use Rattle.running.specs.Run.{run}
-use Rattle.running.specs.Claims.{total, nodesBy, Completes, Bare}
+use Rattle.running.specs.Claims.{total, Completes, Bare}
 use Rattle.running.specs.declared.Ran.the-variants.{Text}
 use Rattle.running.proofs.Direct.{run-direct}
 

@@ -9,7 +9,7 @@ use lib.ListN.{length, length-replicate}
 use borrow.Author.Tests.{le-leb}
 use Rattle.calculus.specs.Tree.{Tree, size}
 use Rattle.calculus.specs.declared.Uses.{Uses}
-use Rattle.calculus.specs.Uses.{noUses, _⊕_, steps, newNodes}
+use Rattle.calculus.specs.Uses.{noUses, _⊕_, steps}
 use Rattle.calculus.specs.Rules.{Apply, ApplyAll, at-end, and-next}
 use Rattle.calculus.proofs.Counts.{uses-none, none-uses, uses-assoc}
 use Rattle.calculus.specs.Term.{Term}

@@ -1,4 +1,4 @@
--- What is claimed of Run: where it is refused, what it lacked and which words it cleared; where it writes a text, which, in how many steps and with how
+-- What is claimed of Run: where it is refused, what it lacked and which words it cleared; where it writes a text, which, with which uses and with how
 -- many nodes (Operations, Run). Assumes nothing: these are definitions.
 use Prim.Native.Nat.{ℕ, _+_, _-_, _*_, _≤_, _<_}
 use mathlib.Core.Path.{_≡_}
@@ -183,7 +183,7 @@ BadText w s o l = Fit w s o × (p : Packet) × (packet l ≡ some p) × (t : Ter
 pub record Completes (w s o l : List ℕ) (j u n : ℕ) (k : Uses) : Type 0 where
   pub numbers : ranNumbers (run w s o l .answer) ≡ record { refusal = 0; node = 0; used = u; steps = j; digits = n }
   -- "five counts"; "Their sum is the steps" ([5])
-  pub counts : ranUses (run w s o l .answer) ≡ k
+  pub uses-are : ranUses (run w s o l .answer) ≡ k
   pub steps-are : j ≡ steps k
   -- the packet, its rule's term, its arguments' trees in order
   pub sent : Packet
@@ -200,6 +200,8 @@ pub record Completes (w s o l : List ℕ) (j u n : ℕ) (k : Uses) : Type 0 wher
   -- "applies the translated rule's tree to the first argument by the five rules, that outcome to the second, and so on. Its steps are the uses"; "under
   -- one step limit"
   pub translated : ApplyAll (ruleTree term) args tree k
+  -- the uses of every such run are these
+  pub only : {r : Tree} {i : Uses} → ApplyAll (ruleTree term) args r i → i ≡ k
   pub within-limit : j ≤ sent .limit
   -- "The planner's run then has a tree, and it is this one; for n = 1 the steps [..] are the planner's plus 2L + 5X − 1."
   pub direct : 1 ≤ length args → length args ≤ parameters term → (i : ℕ) × Direct term args tree i

@@ -7,7 +7,8 @@ pub mod random;
 pub mod texts;
 pub mod trees;
 
-/// What the second evaluator goes by: document 01 and, of document 02, [2].
+/// What the second evaluator goes by: document 01 and, of document 02, [2]. It tells the uses of each
+/// rule ([5]) whatever holds.
 pub const PAPERS: second::Papers = second::Papers {
     default_limit: 100_000,
     ..second::DOCUMENT_01

@@ -301,7 +301,7 @@ fn run() {
     assert_eq!(call(37, 73, 65_536, packet).0, refused_uses(LIMITS, 0));
 }
 
-/// Five counts that all differ, each of them over several arguments. I is λx. x, 21010.
+/// Five counts that all differ, summed over the arguments. I is λx. x, 21010.
 #[test]
 fn uses_over_arguments() {
     let arguments: [(&[u8], [usize; 5]); 8] = [

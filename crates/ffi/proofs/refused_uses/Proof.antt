@@ -1,4 +1,4 @@
--- `ffi::refused_uses` meets its contract: the refusal's number, and nine zeros but for `used`. Assumes nothing.
+-- `ffi::refused_uses` meets its contract: the refusal's number, and zeros but for `used`. Assumes nothing.
 use Rattle.table.specs.Refusal.{refusedNumbers}
 use borrow.Author.Needs.{needs}
 use Rattle.ffi.proofs.refused_uses.Statement.{statement}
