@@ -12,13 +12,13 @@ ghost use Rattle.applying.specs.States.{FrameIn};
 ghost use Rattle.frames.specs.Code.{frameAt, pushed, framesOf, stateOf, turnOf, moreOf};
 
 // A state of an application: the node applied and its argument, how many frames are held, and the uses so far. The nodes and the frames
-// themselves lie in the lent words. Where the application is done, `function` is the outcome's node. The counts are fields of their own, so that a loop
-// over uses keeps them in registers.
+// themselves lie in the lent words. Where the application is done, `function` is the outcome's node.
 pub struct Machine {
     pub used: usize,
     pub function: usize,
     pub argument: usize,
     pub held: usize,
+    // the uses of each rule, in fields of their own, so that a loop over uses keeps them where they are
     pub leaf: usize,
     pub stem: usize,
     pub drop: usize,
