@@ -20,12 +20,12 @@ use Rattle.table.specs.declared.Refusal.the-variants.{Steps, Nodes, Frames}
 use Rattle.table.proofs.Trees.{kept-refl}
 use Rattle.table.proofs.Entry.{enters}
 use Rattle.applying.specs.declared.Applied.the-variants.{Node, Refused}
-use Rattle.applying.specs.Machine.{oneUse, State, wanted, Turn, more, done, stop, turn, after, uses}
+use Rattle.applying.specs.Machine.{State, wanted, Turn, more, done, stop, turn, after, uses}
 use Rattle.applying.specs.Apply.{settle, begin, applyNodes, apply}
 use Rattle.applying.specs.Lacks.{Lacks, no-place, all-held}
 use Rattle.applying.specs.States.{Good}
 use Rattle.applying.specs.Claims.{Gives}
-use Rattle.applying.proofs.States.{tableOf, Later, turn-later, usesNext, Took, turn-took, one-step}
+use Rattle.applying.proofs.States.{tableOf, Later, turn-later, oneUse, usesNext, Took, turn-took, one-step}
 use Rattle.applying.proofs.Leads.{Leads, TurnLeads, leads-same, leads-after, uses-some, and-then}
 use Rattle.applying.proofs.Cases.{Ways, refused, ran, ways, checks-keep, good-begin}
 use Rattle.applying.proofs.Stops.{stop-lacks}

@@ -19,11 +19,11 @@ use Rattle.table.proofs.Trees.{kept-refl, kept-tree}
 use Rattle.table.proofs.Entry.{enters, stopped-kept}
 use Rattle.applying.specs.declared.Applied.{Applied}
 use Rattle.applying.specs.declared.Applied.the-variants.{Node, Refused}
-use Rattle.applying.specs.Machine.{oneUse, State, wanted, Turn, more, done, stop, turn, after, uses}
+use Rattle.applying.specs.Machine.{State, wanted, Turn, more, done, stop, turn, after, uses}
 use Rattle.applying.specs.Apply.{appliedNumbers, appliedUses, settle, begin, apply}
 use Rattle.applying.specs.States.{Good}
 pub use Rattle.applying.specs.Claims.{Follows}
-use Rattle.applying.proofs.States.{tableOf, Later, turn-later, uses-later, usesNext, Took, turn-took, Counted, uses-steps, New, uses-new}
+use Rattle.applying.proofs.States.{tableOf, Later, turn-later, uses-later, oneUse, usesNext, Took, turn-took, Counted, uses-steps, New, uses-new}
 use Rattle.applying.proofs.Leads.{Leads, TurnLeads, leads-before}
 use Rattle.applying.proofs.Cases.{Ways, refused, ran, ways, good-begin}
 

@@ -20,9 +20,9 @@ use Rattle.applying.specs.declared.Rule.{Rule}
 use Rattle.applying.specs.declared.Rule.the-variants.{Leaf, Stem, Drop, Spread, Triage}
 use Rattle.applying.specs.declared.Frame.{Frame}
 use Rattle.applying.specs.declared.Frame.the-variants.{SpreadFirst, SpreadSecond, TriageFirst}
-use Rattle.applying.specs.Machine.{forkRule, rule, oneUse, State, wanted, Turn, more, done, stop, resume, grow, hold, useRule, turn}
+use Rattle.applying.specs.Machine.{forkRule, rule, State, wanted, Turn, more, done, stop, resume, grow, hold, useRule, turn}
 use Rattle.applying.specs.States.{Good, FramesIn, TreeBy}
-use Rattle.applying.proofs.States.{cond-by, words-by, RuleIn, rule-in, tableOf, turn-later, usesNext}
+use Rattle.applying.proofs.States.{cond-by, words-by, RuleIn, rule-in, tableOf, turn-later, oneUse, usesNext, turn-is}
 
 -- f is applied to n, and P goes on from the outcome; k are the uses of all that
 pub record Then (f n : Tree) (P : Tree → Uses → Type 0) (k : Uses) : Type 0 where
@@ -203,14 +203,12 @@ module _ {all : ℕ} {s : State} (g : Good all s) {y : Table} (fine : Sound y) (
   use-leads c (Triage p q) x i e j = rw (e .1) (hold-leads c (TriageFirst q) (s .argument) p refl)
 
   turn-leads : Kept (tableOf (turn all s)) y → TurnLeads (y .words) o k (Left (tree (s .function))) (turn all s) ≡ Left (tree (s .function))
-  unfolding turn
   turn-leads =
-      use-leads (usesNext s) (wanted s) (tree (s .function)) (rule-in (g .fine) (s .function) (g .function-in))
-      (rw (← same-rule (g .fine) kept (s .function) (g .function-in)) (tree-by fine (s .function) (omega (arith, g .function-in, kept .up))))
+      rw (turn-is all s) (use-leads (usesNext s) (wanted s) (tree (s .function)) (rule-in (g .fine) (s .function) (g .function-in))
+      (rw (← same-rule (g .fine) kept (s .function) (g .function-in)) (tree-by fine (s .function) (omega (arith, g .function-in, kept .up)))))
 
 -- the first use of a tree is that of the rule that is taken for it
 rule-first : (w : List ℕ) (r : Rule) (x : Tree) → TreeBy w r x → firstUse x ≡ oneUse r
-unfolding oneUse
 rule-first w Leaf x e = rw e
 rule-first w (Stem p) x e = rw e
 rule-first w (Drop y) x e = rw e
@@ -223,7 +221,7 @@ module _ {all : ℕ} {s : State} (g : Good all s) {y : Table} (fine : Sound y) (
 
   first-is : firstUse (treeAt (y .words) (s .function)) ≡ oneUse (wanted s)
   first-is =
-      rule-first (y .words) _ _ (tree-by fine (s .function) (omega (arith, g .function-in, since .up)))
+      rule-first (y .words) (rule (y .words) (s .function)) (treeAt (y .words) (s .function)) (tree-by fine (s .function) (omega (arith, g .function-in, since .up)))
       ∙ ap oneUse (same-rule (g .fine) since (s .function) (g .function-in))
 
   -- Where the turn leads to o with the uses k, the state before it does with these and the use of its rule, and the other way round.

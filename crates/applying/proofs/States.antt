@@ -9,7 +9,7 @@ use lib.Dec.{ltb, eqb}
 use borrow.Author.Tests.{ltb-true, ltb-false, eqb-true, eqb-false}
 use Rattle.calculus.specs.Tree.{Tree}
 use Rattle.calculus.specs.declared.Uses.{Uses}
-use Rattle.calculus.specs.Uses.{_⊕_, steps, newNodes}
+use Rattle.calculus.specs.Uses.{oneLeaf, oneStem, oneDrop, oneSpread, oneTriage, _⊕_, steps, newNodes}
 use Rattle.table.specs.Nodes.{Table, Placed, capacity, first, second, Sound, make}
 use Rattle.table.specs.declared.Refusal.{Refusal}
 use Rattle.table.specs.declared.Refusal.the-variants.{Nodes, Frames}
@@ -23,7 +23,7 @@ use Rattle.applying.specs.declared.Frame.{Frame}
 use Rattle.applying.specs.declared.Frame.the-variants.{SpreadFirst, SpreadSecond, TriageFirst}
 use Rattle.applying.specs.States.{FrameIn, FramesIn, Good}
 pub use Rattle.applying.specs.States.{tableOf, Counted}
-use Rattle.applying.specs.Machine.{forkRule, rule, needsNode, needsFrame, oneUse, State, wanted, Turn, more, done, stop, resume, grow, hold, useRule, turn, after, uses, madeAfter, made}
+use Rattle.applying.specs.Machine.{forkRule, rule, needsNode, needsFrame, State, wanted, Turn, more, done, stop, resume, grow, hold, useRule, takeRule, turn, after, uses, madeAfter, made}
 
 -- a choice by a test, with what the test says
 pub cond-by {ℓ} : {A : Type 0} (P : A → Type ℓ) (b : Bool) {x y : A} → (b ≡ true → P x) → (b ≡ false → P y) → P (cond b x y)
@@ -38,6 +38,30 @@ words-by P a b f g h =
     cond-by P (eqb a 0) (λ d. f (eqb-true a 0 d))
     (λ d. let n : (a ≡ 0 → ⊥) = eqb-false a 0 d in
     cond-by P (eqb b 0) (λ e. g (omega arith) (eqb-true b 0 e)) (λ e. let m : (b ≡ 0 → ⊥) = eqb-false b 0 e in h (omega arith) (omega arith)))
+
+-- one use of a rule, and the uses of a state once its next use is taken
+abbrev pub oneUse : Rule → Uses
+oneUse Leaf = oneLeaf
+oneUse (Stem p) = oneStem
+oneUse (Drop y) = oneDrop
+oneUse (Spread p y) = oneSpread
+oneUse (Triage p q) = oneTriage
+
+abbrev pub usesNext : State → Uses
+usesNext s = s .uses ⊕ oneUse (wanted s)
+
+take-rule : (all : ℕ) (s : State) (r : Rule) → takeRule all s r ≡ useRule all s (s .uses ⊕ oneUse r) r
+unfolding takeRule
+take-rule all s Leaf = refl
+take-rule all s (Stem p) = refl
+take-rule all s (Drop y) = refl
+take-rule all s (Spread p y) = refl
+take-rule all s (Triage p q) = refl
+
+-- a turn is the use of the rule wanted, which is counted
+pub turn-is : (all : ℕ) (s : State) → turn all s ≡ useRule all s (usesNext s) (wanted s)
+unfolding turn
+turn-is all s = take-rule all s (wanted s)
 
 -- the nodes that a rule names are below u
 abbrev pub RuleIn : ℕ → Rule → Type 0
@@ -126,8 +150,7 @@ module _ {all : ℕ} {s : State} (g : Good all s) where
 -- A use of a rule leads from a good state to a good one, to a node in use, or to a stop, and "no other table word than those of new nodes
 -- changes" (Operations).
 pub turn-later : {all : ℕ} {s : State} → Good all s → Later all (s .table) (turn all s)
-unfolding turn
-turn-later {all} {s} g = use-later g _ (wanted s) (rule-in (g .fine) (s .function) (g .function-in))
+turn-later {all} {s} g = rw (turn-is all s) (use-later g (usesNext s) (wanted s) (rule-in (g .fine) (s .function) (g .function-in)))
 
 later-trans : {all : ℕ} {t z : Table} {x : Turn} → Extends t z → Later all z x → Later all t x
 later-trans e l = record { fine = l .fine; extends = extends-trans e (l .extends); ready = l .ready }
@@ -164,16 +187,11 @@ module _ (all : ℕ) (s : State) (k : Uses) (P : Turn → Type 0) (goes-on : (z 
   use-by (Spread p y) a b = cond-by P (ltb (length (s .frames)) all) (λ e. goes-on _ refl) (λ e. b refl (ltb-false _ _ e))
   use-by (Triage p q) a b = cond-by P (ltb (length (s .frames)) all) (λ e. goes-on _ refl) (λ e. b refl (ltb-false _ _ e))
 
--- the uses once the next one is taken
-abbrev pub usesNext : State → Uses
-usesNext s = s .uses ⊕ oneUse (wanted s)
-
 pub turn-by : (all : ℕ) (s : State) (P : Turn → Type 0) → ((z : State) → z .uses ≡ usesNext s → P (more z)) → ((p : Placed) → P (done p (usesNext s)))
     → (needsNode (wanted s) ≡ true → capacity (s .table .words) ≤ s .table .used → P (stop Nodes (s .table)))
     → (needsFrame (wanted s) ≡ true → all ≤ length (s .frames) → P (stop Frames (s .table)))
     → P (turn all s)
-unfolding turn
-turn-by all s P goes-on ends = use-by all s (usesNext s) P goes-on ends (wanted s)
+turn-by all s P goes-on ends a b = rw (turn-is all s) (use-by all s (usesNext s) P goes-on ends (wanted s) a b)
 
 -- the uses that a turn has counted are k
 abbrev pub Took : Uses → Turn → Type 0
@@ -187,7 +205,7 @@ turn-took all s = turn-by all s (Took (usesNext s)) (λ z e. e) (λ p. refl) (λ
 
 -- one use of a rule is one step, and makes a node where the rule needs one
 pub one-step : (r : Rule) → (steps (oneUse r) ≡ 1) × (newNodes (oneUse r) ≡ cond (needsNode r) 1 0)
-unfolding oneUse needsNode
+unfolding needsNode
 one-step Leaf = (refl, refl)
 one-step (Stem p) = (refl, refl)
 one-step (Drop y) = (refl, refl)
@@ -252,8 +270,7 @@ module _ (all : ℕ) (s : State) where
   use-grew k (Triage p q) = hold-grew k (TriageFirst q) (s .argument) p
 
   turn-grew : Grew (cond (needsNode (wanted s)) 1 0) (turn all s)
-  unfolding turn
-  turn-grew = use-grew (usesNext s) (wanted s)
+  turn-grew = rw (turn-is all s) (use-grew (usesNext s) (wanted s))
 
 -- "leaf: [..] one new node. stem: [..] one new node.": the nodes in use after at most k uses are those before and those made.
 pub uses-made : (all k : ℕ) (s : State) → tableOf (uses all k s) .used ≡ s .table .used + made all k s

@@ -28,7 +28,7 @@ onLeaf free held limit = apply (texts ++ replicate free 9) 13 (replicate held 5)
 -- "on 0 it gives 10 in 10 steps, 5 new nodes, 2 frames": y is applied to N before p, so its two nodes come first
 pub gives : onLeaf 12 7 10 ≡ whole (Node 17 18 10 (counts 3 2 2 3 0)) (texts ++ (1 ∷ 13 ∷ 13 ∷ 0 ∷ 6 ∷ 13 ∷ 13 ∷ 0 ∷ 13 ∷ 0 ∷ 9 ∷ 9 ∷ [])) (replicate 7 0)
 unfolding nodes.broken nodes.sound nodes.make outcome.fits outcome.atEntry outcome.stopped
-    machine.forkRule machine.rule machine.oneUse machine.resume machine.grow machine.hold machine.useRule machine.turn machine.after machine.uses
+    machine.forkRule machine.rule machine.resume machine.grow machine.hold machine.useRule machine.takeRule machine.turn machine.after machine.uses
     machine-apply.settle machine-apply.applyNodes machine-apply.apply
 gives = refl
 
@@ -40,7 +40,7 @@ pub refuses : onLeaf 12 7 9 ∷ onLeaf 9 7 10 ∷ onLeaf 12 5 10 ∷ onLeaf 9 7 
     ∷ whole (Refused Steps) (texts ++ (replicate 8 0 ++ replicate 1 9)) (replicate 7 0)
     ∷ []
 unfolding nodes.broken nodes.sound nodes.make outcome.fits outcome.atEntry outcome.stopped
-    machine.forkRule machine.rule machine.oneUse machine.resume machine.grow machine.hold machine.useRule machine.turn machine.after machine.uses
+    machine.forkRule machine.rule machine.resume machine.grow machine.hold machine.useRule machine.takeRule machine.turn machine.after machine.uses
     machine-apply.settle machine-apply.applyNodes machine-apply.apply
 refuses = refl
 
@@ -48,7 +48,7 @@ refuses = refl
 pub triages : apply (0 ∷ 0 ∷ 0 ∷ 0 ∷ 0 ∷ 0 ∷ 3 ∷ 2 ∷ 4 ∷ 1 ∷ 0 ∷ 0 ∷ 9 ∷ 9 ∷ 9 ∷ 9 ∷ []) 6 (5 ∷ 5 ∷ 5 ∷ []) 4 5 3
     ≡ whole (Node 7 8 3 (counts 1 1 0 0 1)) (0 ∷ 0 ∷ 0 ∷ 0 ∷ 0 ∷ 0 ∷ 3 ∷ 2 ∷ 4 ∷ 1 ∷ 0 ∷ 0 ∷ 3 ∷ 0 ∷ 3 ∷ 2 ∷ []) (0 ∷ 0 ∷ 0 ∷ [])
 unfolding nodes.broken nodes.sound nodes.make outcome.fits outcome.atEntry outcome.stopped
-    machine.forkRule machine.rule machine.oneUse machine.resume machine.grow machine.hold machine.useRule machine.turn machine.after machine.uses
+    machine.forkRule machine.rule machine.resume machine.grow machine.hold machine.useRule machine.takeRule machine.turn machine.after machine.uses
     machine-apply.settle machine-apply.applyNodes machine-apply.apply
 triages = refl
 

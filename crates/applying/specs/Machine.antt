@@ -43,14 +43,6 @@ needsFrame (Drop y) = false
 needsFrame (Spread p y) = true
 needsFrame (Triage p q) = true
 
--- "Each use of a rule tells which of the five it was." ([5])
-unfoldable pub oneUse : Rule → Uses
-oneUse Leaf = oneLeaf
-oneUse (Stem p) = oneStem
-oneUse (Drop y) = oneDrop
-oneUse (Spread p y) = oneSpread
-oneUse (Triage p q) = oneTriage
-
 -- A state of an application: the table, the node applied and its argument, the frames held with the last one first, and the uses so far.
 pub record State : Type 0 where
   pub table : Table
@@ -96,13 +88,20 @@ useRule all s k (Drop y) = resume (s .table) (s .frames) k y
 useRule all s k (Spread p y) = hold all s k (SpreadFirst p (s .argument)) y (s .argument)
 useRule all s k (Triage p q) = hold all s k (TriageFirst q) (s .argument) p
 
+-- "Each use is one step, counted when taken, before the applications under it." "Each use of a rule tells which of the five it was." ([5])
+unfoldable pub takeRule : ℕ → State → Rule → Turn
+takeRule all s Leaf = useRule all s (s .uses ⊕ oneLeaf) Leaf
+takeRule all s (Stem p) = useRule all s (s .uses ⊕ oneStem) (Stem p)
+takeRule all s (Drop y) = useRule all s (s .uses ⊕ oneDrop) (Drop y)
+takeRule all s (Spread p y) = useRule all s (s .uses ⊕ oneSpread) (Spread p y)
+takeRule all s (Triage p q) = useRule all s (s .uses ⊕ oneTriage) (Triage p q)
+
 -- the rule that a state takes next
 abbrev pub wanted : State → Rule
 wanted s = rule (s .table .words) (s .function)
 
--- "Each use is one step, counted when taken, before the applications under it."
 unfoldable pub turn : ℕ → State → Turn
-turn all s = useRule all s (s .uses ⊕ oneUse (wanted s)) (wanted s)
+turn all s = takeRule all s (wanted s)
 
 unfoldable pub after : (State → Turn) → Turn → Turn
 after go (more s) = go s

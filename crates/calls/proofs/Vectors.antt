@@ -115,7 +115,7 @@ unfolding left leftBy size
     text.takeLeaf text.takeStem text.takeFork text.takeDigit text.pending text.single text.treeOf text.manyPending text.mostPending
     ternary.readable ternary.readTree ternary.read
     translation.translateRule translation.translate
-    machine.forkRule machine.rule machine.oneUse machine.resume machine.grow machine.hold machine.useRule machine.turn machine.after machine.uses
+    machine.forkRule machine.rule machine.resume machine.grow machine.hold machine.useRule machine.takeRule machine.turn machine.after machine.uses
     applying.settle applying.applyNodes applying.apply applying.appliedNumbers
 computed =
     record {

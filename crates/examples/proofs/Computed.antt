@@ -29,7 +29,7 @@ unfolding rows size
     read.readable read.readTree read.read
     write.next write.spend write.digits write.written write.writeTree write.write
     translate.translateRule translate.translate
-    machine.forkRule machine.rule machine.oneUse machine.resume machine.grow machine.hold machine.useRule machine.turn machine.after machine.uses
+    machine.forkRule machine.rule machine.resume machine.grow machine.hold machine.useRule machine.takeRule machine.turn machine.after machine.uses
     apply.settle apply.applyNodes apply.apply
     packet.before packet.fields packet.highFirst packet.withArgument packet.lastField packet.afterRule packet.fromFields packet.packet packet.fieldBytes packet.argumentBytes
     run.ranNumbers run.stopped run.afterMade run.afterApplied run.afterWritten run.writes run.applies run.reads run.stages run.allReadable run.runPacket run.lengthsFit run.run

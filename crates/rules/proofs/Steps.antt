@@ -16,9 +16,9 @@ use Rattle.nodes.specs.Code.{placedBy}
 use Rattle.nodes.specs.declared.NewNode.{NewNode}
 use Rattle.applying.specs.declared.Rule.{Rule}
 use Rattle.applying.specs.declared.Rule.the-variants.{Leaf, Stem, Drop, Spread, Triage}
-use Rattle.applying.specs.Machine.{rule, oneUse, Turn, stop, resume, grow, useRule, turn}
+use Rattle.applying.specs.Machine.{rule, Turn, stop, resume, grow, useRule, turn}
 use Rattle.applying.specs.States.{Good}
-use Rattle.applying.proofs.States.{RuleIn, rule-in}
+use Rattle.applying.proofs.States.{oneUse, turn-is, RuleIn, rule-in}
 use Rattle.frames.specs.declared.Machine.{Machine}
 use Rattle.frames.specs.Code.{framesOf, usesOf, stateOf}
 use Rattle.frames.proofs.Frames.{length-frames}
@@ -75,7 +75,6 @@ counting m (Spread p y) = counts (m .leaf) (m .stem) (m .drop) (m .spread + 1) (
 counting m (Triage p q) = counts (m .leaf) (m .stem) (m .drop) (m .spread) (m .triage + 1)
 
 counting-is : (m : Machine) (r : Rule) → counting m r ≡ usesOf m ⊕ oneUse r
-unfolding oneUse
 counting-is m Leaf = same-uses (omega arith) (omega arith) (omega arith) (omega arith) (omega arith)
 counting-is m (Stem p) = same-uses (omega arith) (omega arith) (omega arith) (omega arith) (omega arith)
 counting-is m (Drop y) = same-uses (omega arith) (omega arith) (omega arith) (omega arith) (omega arith)
@@ -85,5 +84,4 @@ counting-is m (Triage p q) = same-uses (omega arith) (omega arith) (omega arith)
 -- the rule that is wanted is used, and its use is counted
 pub by-rule : (all : ℕ) (m : Machine) (w s : List ℕ) (x : Turn) (r : Rule) → rule w (m .function) ≡ r → x ≡ useRule all (stateOf m w s) (counting m r) r
     → x ≡ turn all (stateOf m w s)
-unfolding turn
-by-rule all m w s x r e q = rw (e, ← counting-is m r) q
+by-rule all m w s x r e q = rw (turn-is all (stateOf m w s), e, ← counting-is m r) q
