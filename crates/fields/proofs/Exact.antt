@@ -1,6 +1,6 @@
 -- The reader of packets gives a packet exactly where the bytes are one, and bytes are one packet at most. Assumes nothing.
 use Prim.Native.Nat.{ℕ, zero, suc, _+_, _*_, _/_, _%_, _≤_}
-use mathlib.Core.Path.{_≡_, refl}
+use mathlib.Core.Path.{_≡_, refl, _∙_}
 use mathlib.Core.Logic.{_↔_}
 use mathlib.Core.Bool.{Bool, true, false, cond, _&&_}
 use mathlib.Core.List.{List, [], _∷_, _++_, append-assoc, append-nil}
@@ -10,8 +10,8 @@ use lib.ListN.{length, take, drop, length-append, take-append-drop}
 use lib.Seq.{length-take-le, take-append-seam, drop-append-seam}
 use lib.Dec.{leb, eqb}
 use borrow.Author.Tests.{leb-true, le-leb, eqb-true, eq-eqb}
-use Rattle.fields.specs.Packet.{Field, before, fields, Packet, highFirst, withArgument, lastField, afterRule, fromFields, packet}
-use Rattle.fields.specs.Packet.{fieldBytes, argumentBytes, IsLimit, named, default, IsPacket, NoPacket, Bytes}
+use Rattle.fields.specs.Packet.{Field, before, fields, Packet, defaultLimit, highFirst, withArgument, afterLimit, afterArguments, afterRule, fromFields, packet}
+use Rattle.fields.specs.Packet.{fieldBytes, argumentBytes, labelBytes, IsLimit, named, default, IsPacket, NoPacket, Bytes}
 
 bytes-drop : (n : ℕ) (l : List ℕ) → Bytes l → Bytes (drop n l)
 bytes-drop zero l h = h
@@ -63,58 +63,102 @@ fields-found (suc n) (f ∷ fs) h =
     let x = le-leb k (length (f .value ++ allBytes fs)) (omega arith) in
     rw (m, x, take-append-seam (f .value) (allBytes fs), drop-append-seam (f .value) (allBytes fs), fields-found n fs (omega arith))
 
+-- the fields after a limit n are those of the packet that is read from them
+abbrev Ended : List ℕ → ℕ → List Field → Option Packet → Type 0
+Ended r n fs none = Unit {0}
+Ended r n fs (some p) = (p .rule ≡ r) × (p .arguments ≡ []) × (p .limit ≡ n) × (allBytes fs ≡ labelBytes (p .label))
+
+limit-good : (r : List ℕ) (n : ℕ) (fs : List Field) → Ended r n fs (afterLimit r n fs)
+unfolding afterLimit labelBytes
+limit-good r n [] = (refl, refl, refl, refl)
+limit-good r n (f ∷ []) = go (eqb (f .tag) 4) refl
+  where
+    go : (z : Bool) → eqb (f .tag) 4 ≡ z
+        → Ended r n (f ∷ []) (cond z (some (record { rule = r; arguments = []; limit = n; label = some (f .value) })) none)
+    go true e = let tag = eqb-true (f .tag) 4 e in (refl, refl, refl, rw (tag, append-nil))
+    go false e = tt
+limit-good r n (f ∷ (g ∷ fs)) = tt
+
 -- the fields after a rule r are those of the packet that is read from them, and it has at most k arguments
 abbrev Good : List ℕ → ℕ → List Field → Option Packet → Type 0
 Good r k fs none = Unit {0}
 Good r k fs (some p) =
     (end : List ℕ)
     × (p .rule ≡ r)
-    × (allBytes fs ≡ argumentBytes (p .arguments) ++ end)
+    × (allBytes fs ≡ argumentBytes (p .arguments) ++ (end ++ labelBytes (p .label)))
     × IsLimit end (p .limit)
     × (length (p .arguments) ≤ k)
 
-last-good : (r : List ℕ) (k : ℕ) (f : Field) (fs : List Field) → Good r k (f ∷ fs) (lastField r f fs)
-unfolding lastField argumentBytes
-last-good r k f [] = go (eqb (f .tag) 3) (eqb (length (f .value)) 4) (leb (highFirst 0 (f .value)) 1000000) refl refl refl
+with-limit : (r : List ℕ) (k : ℕ) {end : List ℕ} {n : ℕ} → IsLimit end n → (gs fs : List Field) → allBytes gs ≡ end ++ allBytes fs
+    → (P : Option Packet) → Ended r n fs P → Good r k gs P
+unfolding argumentBytes
+with-limit r k limit gs fs e none h = tt
+with-limit r k {end} limit gs fs e (some p) h = (end, h .0, rw (h .1, ← h .3) e, rw (h .2) limit, rw (h .1) (omega arith))
+
+arguments-good : (r : List ℕ) (k : ℕ) (fs : List Field) → Good r k fs (afterArguments r fs)
+unfolding afterArguments
+arguments-good r k [] = with-limit r k default [] [] refl (afterLimit r defaultLimit []) (limit-good r defaultLimit [])
+arguments-good r k (f ∷ fs) = go (eqb (f .tag) 3) (eqb (length (f .value)) 4) (leb (highFirst 0 (f .value)) 1000000) refl refl refl
   where
     go : (x y z : Bool) → eqb (f .tag) 3 ≡ x → eqb (length (f .value)) 4 ≡ y → leb (highFirst 0 (f .value)) 1000000 ≡ z
-        → Good r k (f ∷ []) (cond (x && (y && z)) (some (record { rule = r; arguments = []; limit = highFirst 0 (f .value) })) none)
+        → Good r k (f ∷ fs) (cond x (cond (y && z) (afterLimit r (highFirst 0 (f .value)) fs) none) (afterLimit r defaultLimit (f ∷ fs)))
     go true true true a b c =
         let tag = eqb-true (f .tag) 3 a in
-        (fieldBytes 3 (f .value), refl, rw (tag, append-nil), named (f .value) (eqb-true _ _ b) (leb-true _ _ c), omega arith)
+        with-limit r k (named (f .value) (eqb-true (length (f .value)) 4 b) (leb-true (highFirst 0 (f .value)) 1000000 c)) (f ∷ fs) fs (rw tag)
+        (afterLimit r (highFirst 0 (f .value)) fs) (limit-good r (highFirst 0 (f .value)) fs)
     go true true false a b c = tt
     go true false z a b c = tt
-    go false y z a b c = tt
-last-good r k f (g ∷ fs) = tt
+    go false y z a b c = with-limit r k default (f ∷ fs) (f ∷ fs) refl (afterLimit r defaultLimit (f ∷ fs)) (limit-good r defaultLimit (f ∷ fs))
 
 after-good : (r : List ℕ) (k : ℕ) (fs : List Field) → Good r k fs (afterRule r k fs)
 unfolding afterRule withArgument argumentBytes
-after-good r k [] = ([], refl, refl, default, omega arith)
-after-good r zero (f ∷ fs) = last-good r 0 f fs
+after-good r zero fs = arguments-good r 0 fs
+after-good r (suc k) [] = arguments-good r (suc k) []
 after-good r (suc k) (f ∷ fs) = go (eqb (f .tag) 2) refl (afterRule r k fs) (after-good r k fs)
   where
     go : (z : Bool) → eqb (f .tag) 2 ≡ z → (P : Option Packet) → Good r k fs P
-        → Good r (suc k) (f ∷ fs) (cond z (withArgument (f .value) P) (lastField r f fs))
+        → Good r (suc k) (f ∷ fs) (cond z (withArgument (f .value) P) (afterArguments r (f ∷ fs)))
     go true e none g = tt
     go true e (some p) g =
         let tag = eqb-true (f .tag) 2 e in
         (g .0, g .1, rw (tag, g .2, append-assoc), g .3, omega arith)
-    go false e P g = last-good r (suc k) f fs
+    go false e P g = arguments-good r (suc k) (f ∷ fs)
 
--- arguments and a limit are fields, and these are read
-after-found : (r : List ℕ) (k : ℕ) (vs : List (List ℕ)) {end : List ℕ} {n : ℕ} → IsLimit end n → length vs ≤ k
-    → (fs : List Field) × (allBytes fs ≡ argumentBytes vs ++ end) × (afterRule r k fs ≡ some (record { rule = r; arguments = vs; limit = n }))
-unfolding afterRule lastField withArgument argumentBytes
-after-found r k [] (named v four most) h = (record { tag = 3; value = v } ∷ [], append-nil _, rw (last k, eq-eqb _ _ four, le-leb _ _ most))
+-- the label's field, where there is one
+abbrev labelFields : Option (List ℕ) → List Field
+labelFields none = []
+labelFields (some v) = record { tag = 4; value = v } ∷ []
+
+label-bytes : (v : Option (List ℕ)) → allBytes (labelFields v) ≡ labelBytes v
+unfolding labelBytes
+label-bytes none = refl
+label-bytes (some v) = append-nil _
+
+-- arguments, a limit and a label are fields, and these are read
+after-found : (r : List ℕ) (k : ℕ) (vs : List (List ℕ)) (v : Option (List ℕ)) {end : List ℕ} {n : ℕ} → IsLimit end n → length vs ≤ k
+    → (fs : List Field)
+    × (allBytes fs ≡ argumentBytes vs ++ (end ++ labelBytes v))
+    × (afterRule r k fs ≡ some (record { rule = r; arguments = vs; limit = n; label = v }))
+unfolding afterRule afterArguments afterLimit withArgument argumentBytes
+after-found r k [] v (named w four most) h =
+    (record { tag = 3; value = w } ∷ labelFields v, rw (label-bytes v), last k ∙ rw (eq-eqb _ _ four, le-leb _ _ most) (ends v))
   where
-    last : (j : ℕ) → afterRule r j (record { tag = 3; value = v } ∷ []) ≡ lastField r (record { tag = 3; value = v }) []
+    last : (j : ℕ) → afterRule r j (record { tag = 3; value = w } ∷ labelFields v) ≡ afterArguments r (record { tag = 3; value = w } ∷ labelFields v)
     last zero = refl
     last (suc j) = refl
-after-found r k [] default h = ([], refl, refl)
-after-found r zero (v ∷ vs) limit h = absurd (omega arith)
-after-found r (suc k) (v ∷ vs) limit h =
-    let x = after-found r k vs limit (omega arith) in
-    (record { tag = 2; value = v } ∷ x .0, rw (x .1, append-assoc), rw (x .2))
+
+    ends : (v : Option (List ℕ))
+        → afterLimit r (highFirst 0 w) (labelFields v) ≡ some (record { rule = r; arguments = []; limit = highFirst 0 w; label = v })
+    ends none = refl
+    ends (some v) = refl
+after-found r zero [] none default h = ([], label-bytes none, refl)
+after-found r (suc k) [] none default h = ([], label-bytes none, refl)
+after-found r zero [] (some v) default h = (labelFields (some v), label-bytes (some v), refl)
+after-found r (suc k) [] (some v) default h = (labelFields (some v), label-bytes (some v), refl)
+after-found r zero (u ∷ vs) v limit h = absurd (omega arith)
+after-found r (suc k) (u ∷ vs) v limit h =
+    let x = after-found r k vs v limit (omega arith) in
+    (record { tag = 2; value = u } ∷ x .0, rw (x .1, append-assoc), rw (x .2))
 
 -- what is read is the packet that the bytes are
 abbrev GoodPacket : List ℕ → Option Packet → Type 0
@@ -144,14 +188,15 @@ packet-good l h = go (leb (length l) 16384) refl (fields (length l) l) (fields-g
 pub packet-found : {l : List ℕ} {p : Packet} → IsPacket l p → packet l ≡ some p
 unfolding packet fromFields
 packet-found {l} {p} h =
-    let x = after-found (p .rule) 8 (p .arguments) (h .limit-is) (h .few) in
+    let x = after-found (p .rule) 8 (p .arguments) (p .label) (h .limit-is) (h .few) in
     let fs : List Field = record { tag = 1; value = p .rule } ∷ x .0 in
     let e : l ≡ allBytes fs = rw (x .1) (h .bytes) in
     let y = fields-found (length (allBytes fs)) fs (omega arith) in
     rw (le-leb _ _ (h .short), e, y, x .2)
 
 -- "First tag 1, a rule; then none to eight of tag 2, an argument's text; then at most one tag 3, four bytes, high first, the step limit, at most
--- 1,000,000. [..] Anything else, or more than 16,384 bytes, is 6." (The packet) The reader gives a packet exactly where the bytes are that packet.
+-- 1,000,000. [..] Anything else, or more than 16,384 bytes, is 6." (The packet) "A packet may end with one field of tag 4, a label's text." ([1]) The
+-- reader gives a packet exactly where the bytes are that packet.
 pub packet-exact : (l : List ℕ) (p : Packet) → Bytes l → (packet l ≡ some p) ↔ IsPacket l p
 packet-exact l p h = (λ e. rw e at (packet-good l h), packet-found)
 

@@ -4,7 +4,7 @@ use mathlib.Core.Path.{_≡_, refl}
 use mathlib.Core.List.{List, [], _∷_, _++_, map}
 use mathlib.Core.Option.{Option, none, some}
 use lib.ListN.{replicate}
-use Rattle.fields.specs.Packet.{before, fields, Packet, highFirst, withArgument, lastField, afterRule, fromFields, packet}
+use Rattle.fields.specs.Packet.{before, fields, Packet, highFirst, withArgument, afterLimit, afterArguments, afterRule, fromFields, packet}
 
 -- a packet's bytes, and the packet, or none for 6
 pub record Row : Type 0 where
@@ -25,7 +25,14 @@ abbrev greatest : List ℕ
 greatest = 0x03 ∷ 0x00 ∷ 0x04 ∷ 0x00 ∷ 0x0F ∷ 0x42 ∷ 0x40 ∷ []
 
 abbrev accepted : List (List ℕ) → ℕ → Option Packet
-accepted vs n = some (record { rule = 0x02 ∷ 0x03 ∷ 0x00 ∷ []; arguments = vs; limit = n })
+accepted vs n = some (record { rule = 0x02 ∷ 0x03 ∷ 0x00 ∷ []; arguments = vs; limit = n; label = none })
+
+-- the label's text 10 as a field, and the packet with it
+abbrev label : List ℕ
+label = 0x04 ∷ 0x00 ∷ 0x02 ∷ 0x31 ∷ 0x30 ∷ []
+
+abbrev carrying : List (List ℕ) → ℕ → Option Packet
+carrying vs n = some (record { rule = 0x02 ∷ 0x03 ∷ 0x00 ∷ []; arguments = vs; limit = n; label = some (0x31 ∷ 0x30 ∷ []) })
 
 abbrev zeroText : List ℕ
 zeroText = 0x30 ∷ []
@@ -38,7 +45,7 @@ rows =
     -- "Standard input in hexadecimal 01 0006 020103000300 02 0001 30"; "Without tag 3 the limit becomes 100,000." ([2])
     record {
       input = 0x01 ∷ 0x00 ∷ 0x06 ∷ 0x02 ∷ 0x01 ∷ 0x03 ∷ 0x00 ∷ 0x03 ∷ 0x00 ∷ 0x02 ∷ 0x00 ∷ 0x01 ∷ 0x30 ∷ [];
-      outcome = some (record { rule = 0x02 ∷ 0x01 ∷ 0x03 ∷ 0x00 ∷ 0x03 ∷ 0x00 ∷ []; arguments = zeroText ∷ []; limit = 100000 });
+      outcome = some (record { rule = 0x02 ∷ 0x01 ∷ 0x03 ∷ 0x00 ∷ 0x03 ∷ 0x00 ∷ []; arguments = zeroText ∷ []; limit = 100000; label = none });
     }
     -- "then none to eight of tag 2": none
     ∷ record { input = ruleField; outcome = accepted [] 100000 }
@@ -77,17 +84,26 @@ rows =
     ∷ refused (0x01 ∷ 0x00 ∷ [])
     -- a byte after the last field
     ∷ refused (ruleField ++ (0x00 ∷ []))
-    -- tag 4
-    ∷ refused (ruleField ++ (0x04 ∷ 0x00 ∷ 0x04 ∷ 0x00 ∷ 0x0F ∷ 0x42 ∷ 0x40 ∷ []))
+    -- tag 5
+    ∷ refused (ruleField ++ (0x05 ∷ 0x00 ∷ 0x04 ∷ 0x00 ∷ 0x0F ∷ 0x42 ∷ 0x40 ∷ []))
+    -- "A packet may end with one field of tag 4, a label's text." ([1]): after the rule, after an argument, after a limit; the text is not read here
+    ∷ record { input = ruleField ++ label; outcome = carrying [] 100000 }
+    ∷ record { input = ruleField ++ argument ++ label; outcome = carrying (zeroText ∷ []) 100000 }
+    ∷ record { input = ruleField ++ argument ++ greatest ++ label; outcome = carrying (zeroText ∷ []) 1000000 }
+    -- a label before the limit, before an argument, twice, before a byte
+    ∷ refused (ruleField ++ argument ++ label ++ greatest)
+    ∷ refused (ruleField ++ label ++ argument)
+    ∷ refused (ruleField ++ argument ++ label ++ label)
+    ∷ refused (ruleField ++ label ++ (0x00 ∷ []))
     -- 16,384 bytes, and "more than 16,384 bytes, is 6": a rule of 16,381 bytes (high byte 3F, low byte FD), and one of 16,382
     ∷ record {
       input = 0x01 ∷ 0x3F ∷ 0xFD ∷ replicate 16381 0;
-      outcome = some (record { rule = replicate 16381 0; arguments = []; limit = 100000 });
+      outcome = some (record { rule = replicate 16381 0; arguments = []; limit = 100000; label = none });
     }
     ∷ refused (0x01 ∷ 0x3F ∷ 0xFE ∷ replicate 16382 0)
     ∷ []
 
 -- "Anything else, or more than 16,384 bytes, is 6." (The packet) What is read of each row's input is its outcome.
 pub vectors : map (λ (r : Row). packet (r .input)) rows ≡ map (λ (r : Row). r .outcome) rows
-unfolding rows before fields highFirst withArgument lastField afterRule fromFields packet
+unfolding rows before fields highFirst withArgument afterLimit afterArguments afterRule fromFields packet
 vectors = refl

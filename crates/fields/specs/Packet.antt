@@ -28,11 +28,16 @@ fields (suc n) (t ∷ (high ∷ (low ∷ l))) =
     (before (record { tag = t; value = take (high * 256 + low) l }) (fields n (drop (high * 256 + low) l)))
     none
 
--- a packet's rule, its arguments' texts and its step limit
+-- a packet's rule, its arguments' texts, its step limit, and its label's text where it has one ([1])
 pub record Packet : Type 0 where
   pub rule : List ℕ
   pub arguments : List (List ℕ)
   pub limit : ℕ
+  pub label : Option (List ℕ)
+
+-- the packet with this label, or without one
+abbrev pub withLabel : Packet → Option (List ℕ) → Packet
+withLabel p v = record { rule = p .rule; arguments = p .arguments; limit = p .limit; label = v }
 
 -- "Without tag 3 the limit becomes 100,000." ([2])
 abbrev pub defaultLimit : ℕ
@@ -45,21 +50,27 @@ highFirst n (b ∷ l) = highFirst (n * 256 + b) l
 
 unfoldable pub withArgument : List ℕ → Option Packet → Option Packet
 withArgument v none = none
-withArgument v (some p) = some (record { rule = p .rule; arguments = v ∷ p .arguments; limit = p .limit })
+withArgument v (some p) = some (record { rule = p .rule; arguments = v ∷ p .arguments; limit = p .limit; label = p .label })
 
--- "then at most one tag 3, four bytes, high first, the step limit, at most 1,000,000": the last field
-unfoldable pub lastField : List ℕ → Field → List Field → Option Packet
-lastField r f [] =
-    cond (eqb (f .tag) 3 && (eqb (length (f .value)) 4 && leb (highFirst 0 (f .value)) 1000000))
-    (some (record { rule = r; arguments = []; limit = highFirst 0 (f .value) }))
-    none
-lastField r f (g ∷ fs) = none
+-- "A packet may end with one field of tag 4, a label's text." ([1]): what may follow a limit n
+unfoldable pub afterLimit : List ℕ → ℕ → List Field → Option Packet
+afterLimit r n [] = some (record { rule = r; arguments = []; limit = n; label = none })
+afterLimit r n (f ∷ []) = cond (eqb (f .tag) 4) (some (record { rule = r; arguments = []; limit = n; label = some (f .value) })) none
+afterLimit r n (f ∷ (g ∷ fs)) = none
+
+-- "then at most one tag 3, four bytes, high first, the step limit, at most 1,000,000"
+unfoldable pub afterArguments : List ℕ → List Field → Option Packet
+afterArguments r [] = afterLimit r defaultLimit []
+afterArguments r (f ∷ fs) =
+    cond (eqb (f .tag) 3)
+    (cond (eqb (length (f .value)) 4 && leb (highFirst 0 (f .value)) 1000000) (afterLimit r (highFirst 0 (f .value)) fs) none)
+    (afterLimit r defaultLimit (f ∷ fs))
 
 -- "then none to eight of tag 2, an argument's text": at most k of them
 unfoldable pub afterRule : List ℕ → ℕ → List Field → Option Packet
-afterRule r k [] = some (record { rule = r; arguments = []; limit = defaultLimit })
-afterRule r zero (f ∷ fs) = lastField r f fs
-afterRule r (suc k) (f ∷ fs) = cond (eqb (f .tag) 2) (withArgument (f .value) (afterRule r k fs)) (lastField r f fs)
+afterRule r zero fs = afterArguments r fs
+afterRule r (suc k) [] = afterArguments r []
+afterRule r (suc k) (f ∷ fs) = cond (eqb (f .tag) 2) (withArgument (f .value) (afterRule r k fs)) (afterArguments r (f ∷ fs))
 
 -- "First tag 1, a rule"
 unfoldable pub fromFields : Option (List Field) → Option Packet
@@ -86,10 +97,15 @@ pub data IsLimit : List ℕ → ℕ → Type 0 where
   named : (v : List ℕ) → length v ≡ 4 → highFirst 0 v ≤ 1000000 → IsLimit (fieldBytes 3 v) (highFirst 0 v)
   default : IsLimit [] defaultLimit
 
--- "First tag 1, a rule; then none to eight of tag 2, an argument's text; then at most one tag 3"
+-- the label's field, or none ([1])
+unfoldable pub labelBytes : Option (List ℕ) → List ℕ
+labelBytes none = []
+labelBytes (some v) = fieldBytes 4 v
+
+-- "First tag 1, a rule; then none to eight of tag 2, an argument's text; then at most one tag 3"; "A packet may end with one field of tag 4" ([1])
 pub record IsPacket (l : List ℕ) (p : Packet) : Type 0 where
   pub end : List ℕ
-  pub bytes : l ≡ fieldBytes 1 (p .rule) ++ (argumentBytes (p .arguments) ++ end)
+  pub bytes : l ≡ fieldBytes 1 (p .rule) ++ (argumentBytes (p .arguments) ++ (end ++ labelBytes (p .label)))
   pub limit-is : IsLimit end (p .limit)
   pub few : length (p .arguments) ≤ 8
   pub short : length l ≤ 16384

@@ -1,4 +1,4 @@
-// The fields of a packet: where the rule and the arguments' texts stand in it, and the step limit. The definition is in the crate `fields`,
+// The fields of a packet: where the rule, the arguments' texts and the label's stand in it, and the step limit. The definition is in the crate `fields`,
 // the laws that callers cite are in proofs/. A value is a part of the packet, `&packet[start..end]`, and is not copied.
 ghost use mathlib.Core.Path.{_≡_};
 ghost use mathlib.Core.List.{List};
@@ -6,7 +6,8 @@ ghost use Prim.Native.Nat.{ℕ, _+_, _≤_, _<_};
 ghost use lib.ListN.{length, getD, take, drop};
 ghost use Rattle.fields.specs.Packet.{highFirst};
 ghost use Rattle.fields.specs.Packet as reading;
-ghost use Rattle.packet.specs.Code.{endAt, partAt, foundAt, fieldsFrom, lastOf, afterFields, formOf, counted};
+ghost use Rattle.fields.specs.Packet.{afterLimit, afterArguments, afterRule};
+ghost use Rattle.packet.specs.Code.{endAt, partAt, foundAt, fieldsFrom, withFields, formOf, counted};
 
 // Where a field's value stands: packet[start..end].
 pub struct Part {
@@ -14,9 +15,14 @@ pub struct Part {
     pub end: usize,
 }
 
-// What a packet is: broken, or whole, with so many arguments and this step limit.
+// What a packet is: broken, or whole, with so many arguments and this step limit; the last `label` bytes are the label's field, and it has none
+// where they are 0.
 pub enum Form {
-    Whole { arguments: usize, limit: usize },
+    Whole {
+        arguments: usize,
+        limit: usize,
+        label: usize,
+    },
     Broken,
 }
 
@@ -74,36 +80,59 @@ fn four_bytes(packet: &[u8], at: usize) -> usize
     high * 65536 + low
 }
 
-// The field at a position, which is no argument, after so many arguments: the step limit, and the last.
-fn last_field(packet: &[u8], at: usize, count: usize) -> Form
+// The fields from a position on, after so many arguments and this limit: at most a label.
+fn after_limit(packet: &[u8], at: usize, count: usize, limit: usize) -> Form
+    requires { ⌜ at ≤ length (now packet) ⌝ }
+    ensures { λ r. ⌜ ((q : List ℕ) → r ≡ counted count (formOf (withFields (afterLimit q limit) (fieldsFrom (now (packet .entry)) at)))) ⌝ }
+{
+    if at == packet.len() {
+        return Form::Whole {
+            arguments: count,
+            limit: limit,
+            label: 0,
+        };
+    }
+    let Found::Field { tag, end } = field_at(packet, at) else {
+        return Form::Broken;
+    };
+    if tag != 4 {
+        return Form::Broken;
+    }
+    if end != packet.len() {
+        return Form::Broken;
+    }
+    Form::Whole {
+        arguments: count,
+        limit: limit,
+        label: end - at,
+    }
+}
+
+// The field at a position, which is no argument, after so many of them, and what follows: at most one limit, then at most one label.
+fn after_arguments(packet: &[u8], at: usize, count: usize) -> Form
     requires { ⌜ endAt (now packet) at ≤ length (now packet) ⌝ }
-    ensures { λ r. ⌜ ((q : List ℕ) → r ≡ counted count (formOf (lastOf q (fieldsFrom (now (packet .entry)) at)))) ⌝ }
+    ensures { λ r. ⌜ ((q : List ℕ) → r ≡ counted count (formOf (withFields (afterArguments q) (fieldsFrom (now (packet .entry)) at)))) ⌝ }
 {
     if packet[at] != 3 {
-        return Form::Broken;
+        return after_limit(packet, at, count, 100000);
     }
     let part = part_at(packet, at);
     let start = part.start;
-    if part.end != start + 4 {
-        return Form::Broken;
-    }
-    if part.end != packet.len() {
+    let end = part.end;
+    if end != start + 4 {
         return Form::Broken;
     }
     let limit = four_bytes(packet, start);
     if 1000000 < limit {
         return Form::Broken;
     }
-    Form::Whole {
-        arguments: count,
-        limit: limit,
-    }
+    after_limit(packet, end, count, limit)
 }
 
-// The fields from a position on, after the rule: arguments, then at most one limit.
+// The fields from a position on, after the rule: arguments, then at most one limit, then at most one label.
 fn after_rule(packet: &[u8], from: usize) -> Form
     requires { ⌜ from ≤ length (now packet) ⌝ }
-    ensures { λ r. ⌜ ((q : List ℕ) → r ≡ formOf (afterFields q 8 (fieldsFrom (now (packet .entry)) from))) ⌝ }
+    ensures { λ r. ⌜ ((q : List ℕ) → r ≡ formOf (withFields (afterRule q 8) (fieldsFrom (now (packet .entry)) from))) ⌝ }
 {
     let mut at = from;
     let mut count = 0;
@@ -112,7 +141,7 @@ fn after_rule(packet: &[u8], from: usize) -> Form
             return Form::Broken;
         };
         if tag != 2 {
-            return last_field(packet, at, count);
+            return after_arguments(packet, at, count);
         }
         if count == 8 {
             return Form::Broken;
@@ -123,6 +152,7 @@ fn after_rule(packet: &[u8], from: usize) -> Form
     Form::Whole {
         arguments: count,
         limit: 100000,
+        label: 0,
     }
 }
 

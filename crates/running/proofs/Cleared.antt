@@ -8,7 +8,7 @@ use Rattle.calculus.specs.Term.{Term}
 use Rattle.calculus.specs.Abstraction.{ruleTree}
 use Rattle.table.specs.declared.Refusal.{Refusal}
 use Rattle.fields.specs.Packet.{Packet}
-use Rattle.running.specs.Claims.{nodesMade, TranslateHad, ReadsHad, and-read, ReadStops, no-nodes, no-frames, later, Stops, translate-nodes, translate-frames, in-read, in-apply, in-write}
+use Rattle.running.specs.Claims.{nodesMade, TranslateHad, ReadsHad, and-read, ReadStops, no-nodes, no-frames, later, TranslateStops, translate-nodes, translate-frames, Stops, in-translate, in-read, in-apply, in-write}
 
 reads-one : {w s : List ℕ} {u : ℕ} {ls : List (List ℕ)} {e c : Refusal} {m n : ℕ} → ReadStops w s u ls e m → ReadStops w s u ls c n → m ≡ n
 reads-one (no-nodes h) (no-nodes k) = refl
@@ -33,8 +33,8 @@ data Stage (w s : List ℕ) (p : Packet) (t : Term) (args : List Tree) : ℕ →
   after-reads : {m : ℕ} → TranslateHad w s t → ReadsHad w s (size (ruleTree t)) (p .arguments) → m ≡ nodesMade w s p t args → Stage w s p t args m
 
 stage : {w s o : List ℕ} {p : Packet} {t : Term} {args : List Tree} {e : Refusal} {m : ℕ} → Stops w s o p t args e m → Stage w s p t args m
-stage (translate-nodes h) = translating (λ a. omega (arith, a .nodes-enough))
-stage (translate-frames h k) = translating (λ a. omega (arith, a .frames-enough))
+stage (in-translate (translate-nodes h)) = translating (λ a. omega (arith, a .nodes-enough))
+stage (in-translate (translate-frames h k)) = translating (λ a. omega (arith, a .frames-enough))
 stage (in-read h r) = reading h r
 stage (in-apply h r x q k) = after-reads h r q
 stage (in-write h r d l x q k) = after-reads h r q

@@ -29,7 +29,7 @@ use Rattle.running.specs.Claims.{Checked, Completes}
 use Rattle.running.specs.declared.Ran.{Ran}
 use Rattle.running.specs.declared.Ran.the-variants.{Text, Refused}
 use Rattle.running.proofs.Outcomes.{Staged, stops, ends}
-use Rattle.running.proofs.Checks.{run-checked, Checks, fails, passes, checks}
+use Rattle.running.proofs.Checks.{run-checked, Checking, fails, goes-on, checking}
 use Rattle.running.proofs.Refused.{refuses-with}
 
 -- texts that Read takes are whole
@@ -44,7 +44,7 @@ module _ (w s o l : List ℕ) (m u n : ℕ) (k : Uses) where
   -- ends in; with one argument the steps are the direct run's plus 2L + 5X − 1. "Their sum is the steps" ([5]), and the uses are the sums over its arguments.
   pub run-direct : run w s o l .answer ≡ Text m u n k → Completes w s o l m u n k
   unfolding Translated ranNumbers ranUses
-  run-direct q = go (checks w s o l)
+  run-direct q = go (checking w s o l)
     where
       of-stages : {p : Packet} {t : Term} {args : List Tree} → Checked w s o l p t args → Staged w s o p t args (run w s o l) → Completes w s o l m u n k
       of-stages c (stops h b e) = zero-one (cc)
@@ -84,9 +84,9 @@ module _ (w s o l : List ℕ) (m u n : ℕ) (k : Uses) where
             fine = rw (words, ← b) (h .fine);
           }
 
-      go : Checks w s o l → Completes w s o l m u n k
+      go : Checking w s o l → Completes w s o l m u n k
       go (fails r) = zero-one (cc (refuses-with r))
-      go (passes c) = of-stages c (run-checked c)
+      go (goes-on c) = of-stages c (run-checked c)
 
 -- "Their sum is the steps" ([5]), refused or not
 pub run-sum : (w s o l : List ℕ) → ranNumbers (run w s o l .answer) .steps ≡ steps (ranUses (run w s o l .answer))

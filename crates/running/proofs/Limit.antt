@@ -10,7 +10,7 @@ use lib.Dec.{leb, eqb}
 use borrow.Author.Tests.{leb-true}
 use Rattle.table.proofs.Words.{and-right}
 use Rattle.applying.proofs.States.{cond-by}
-use Rattle.fields.specs.Packet.{Field, Packet, highFirst, withArgument, lastField, afterRule, fromFields, fields, packet, fieldBytes, argumentBytes}
+use Rattle.fields.specs.Packet.{Field, Packet, defaultLimit, highFirst, withArgument, afterLimit, afterArguments, afterRule, fromFields, fields, packet, fieldBytes, argumentBytes, labelBytes}
 use Rattle.fields.proofs.Limits.{hundredThousand, default-named}
 use Rattle.running.specs.Run.{run}
 
@@ -18,13 +18,21 @@ abbrev Most : Option Packet → Type 0
 Most none = Unit {0}
 Most (some p) = p .limit ≤ 1000000
 
-last-most : (r : List ℕ) (f : Field) (fs : List Field) → Most (lastField r f fs)
-unfolding lastField
-last-most r f [] =
+limit-most : (r : List ℕ) (n : ℕ) (fs : List Field) → n ≤ 1000000 → Most (afterLimit r n fs)
+unfolding afterLimit
+limit-most r n [] h = h
+limit-most r n (f ∷ []) h = cond-by Most (eqb (f .tag) 4) (λ e. h) (λ e. tt)
+limit-most r n (f ∷ (g ∷ fs)) h = tt
+
+arguments-most : (r : List ℕ) (fs : List Field) → Most (afterArguments r fs)
+unfolding afterArguments
+arguments-most r [] = limit-most r defaultLimit [] (omega arith)
+arguments-most r (f ∷ fs) =
     let n = leb (highFirst 0 (f .value)) 1000000 in
-    cond-by Most (eqb (f .tag) 3 && (eqb (length (f .value)) 4 && n))
-    (λ e. leb-true _ _ (and-right (eqb (length (f .value)) 4) n (and-right (eqb (f .tag) 3) _ e))) (λ e. tt)
-last-most r f (g ∷ fs) = tt
+    cond-by Most (eqb (f .tag) 3)
+    (λ t. cond-by Most (eqb (length (f .value)) 4 && n)
+    (λ e. limit-most r (highFirst 0 (f .value)) fs (leb-true _ _ (and-right (eqb (length (f .value)) 4) n e))) (λ e. tt))
+    (λ t. limit-most r defaultLimit (f ∷ fs) (omega arith))
 
 with-most : (v : List ℕ) (x : Option Packet) → Most x → Most (withArgument v x)
 unfolding withArgument
@@ -33,9 +41,10 @@ with-most v (some p) h = h
 
 after-most : (r : List ℕ) (k : ℕ) (fs : List Field) → Most (afterRule r k fs)
 unfolding afterRule
-after-most r k [] = omega arith
-after-most r zero (f ∷ fs) = last-most r f fs
-after-most r (suc k) (f ∷ fs) = cond-by Most (eqb (f .tag) 2) (λ e. with-most (f .value) (afterRule r k fs) (after-most r k fs)) (λ e. last-most r f fs)
+after-most r zero fs = arguments-most r fs
+after-most r (suc k) [] = arguments-most r []
+after-most r (suc k) (f ∷ fs) =
+    cond-by Most (eqb (f .tag) 2) (λ e. with-most (f .value) (afterRule r k fs) (after-most r k fs)) (λ e. arguments-most r (f ∷ fs))
 
 from-most : (x : Option (List Field)) → Most (fromFields x)
 unfolding fromFields
@@ -52,7 +61,9 @@ packet-limit l e =
 
 -- "Without tag 3 the limit becomes 100,000." ([2]) Run of a packet without tag 3 is Run of the same packet with tag 3 of 100,000, where this keeps
 -- within 16,384 bytes: in the answer and in every lent word and byte.
-pub run-default : (w s o r : List ℕ) (vs : List (List ℕ)) → length vs ≤ 8 → length (fieldBytes 1 r ++ (argumentBytes vs ++ fieldBytes 3 hundredThousand)) ≤ 16384
-    → run w s o (fieldBytes 1 r ++ (argumentBytes vs ++ [])) ≡ run w s o (fieldBytes 1 r ++ (argumentBytes vs ++ fieldBytes 3 hundredThousand))
+pub run-default : (w s o r : List ℕ) (vs : List (List ℕ)) → length vs ≤ 8 → (v : Option (List ℕ))
+    → length (fieldBytes 1 r ++ (argumentBytes vs ++ (fieldBytes 3 hundredThousand ++ labelBytes v))) ≤ 16384
+    → run w s o (fieldBytes 1 r ++ (argumentBytes vs ++ labelBytes v))
+    ≡ run w s o (fieldBytes 1 r ++ (argumentBytes vs ++ (fieldBytes 3 hundredThousand ++ labelBytes v)))
 unfolding run
-run-default w s o r vs few short = rw (default-named r vs few short)
+run-default w s o r vs few v short = rw (default-named r vs few v short)

@@ -20,18 +20,18 @@ use Rattle.applying.specs.Machine.{State}
 use Rattle.applying.specs.Lacks.{Lacks, no-place, all-held, Halts, limit-reached, at-use}
 use Rattle.fields.specs.Packet.{Packet, packet}
 use Rattle.running.specs.Run.{run, ranNumbers, ranUses}
-use Rattle.running.specs.Claims.{Fit, Checked, ReadStops, no-nodes, no-frames, later, ApplyStops, Stops, translate-nodes, translate-frames, in-read, in-apply, in-write, Refuses, too-long, no-packet, no-rule, no-text, stops, Undid, BadRule, BadText}
+use Rattle.running.specs.Claims.{Fit, Checked, ReadStops, no-nodes, no-frames, later, ApplyStops, translate-nodes, translate-frames, Stops, in-translate, in-read, in-apply, in-write, Refuses, too-long, no-packet, no-rule, no-text, stops, Undid, BadRule, BadText}
 use Rattle.running.specs.declared.Ran.{Ran}
 use Rattle.running.specs.declared.Ran.the-variants.{Refused}
 use Rattle.running.proofs.Outcomes.{Staged}
 use Rattle.running.proofs.Outcomes as outcomes
-use Rattle.running.proofs.Checks.{run-long, run-broken-packet, run-bad-rule, run-bad-text, run-checked, Checks, fails, passes, checks}
+use Rattle.running.proofs.Checks.{run-long, run-broken-packet, run-bad-rule, run-bad-text, run-checked, Checking, fails, goes-on, checking}
 
 -- a stage stops for nodes, frames or out bytes, or an application for steps
 pub stops-by : (P : Refusal → Type 0) {w s o : List ℕ} {p : Packet} {t : Term} {args : List Tree} → (ApplyStops w s p t args Steps → P Steps) → P Nodes → P Frames → P Out
     → {e : Refusal} {m : ℕ} → Stops w s o p t args e m → P e
-stops-by P a b c d (translate-nodes h) = b
-stops-by P a b c d (translate-frames h k) = c
+stops-by P a b c d (in-translate (translate-nodes h)) = b
+stops-by P a b c d (in-translate (translate-frames h k)) = c
 stops-by P a b c d (in-read i r) = go r
   where
     go : {w s : List ℕ} {u : ℕ} {ls : List (List ℕ)} {e : Refusal} {m : ℕ} → ReadStops w s u ls e m → P e
@@ -72,7 +72,7 @@ module _ (w s o l : List ℕ) where
   -- "A refusal returns its number [..] Numbers 1 to 6 [..] leave lent memory as found. Numbers 7 to 10 set to 0 the words of the nodes made in the call
   -- and the whole stack; the out bytes stay as at entry": each refusal of Run comes only on its condition, and leaves lent memory so.
   pub run-refused : (e : Refusal) → run w s o l .answer ≡ Refused e → Refuses w s o l (run w s o l) e
-  run-refused e q = go (checks w s o l)
+  run-refused e q = go (checking w s o l)
     where
       by : {c : Refusal} → Refuses w s o l (run w s o l) c → Refuses w s o l (run w s o l) e
       by {c} r = let a : c ≡ e = cc (refuses-with r) in rw (← a) r
@@ -81,9 +81,9 @@ module _ (w s o l : List ℕ) where
       of-stages c (outcomes.stops h k r) = by (stops c h k r)
       of-stages c (outcomes.ends h r) = zero-one (cc)
 
-      go : Checks w s o l → Refuses w s o l (run w s o l) e
+      go : Checking w s o l → Refuses w s o l (run w s o l) e
       go (fails r) = by r
-      go (passes c) = of-stages c (run-checked c)
+      go (goes-on c) = of-stages c (run-checked c)
 
   -- "the out bytes stay as at entry"
   pub refused-out : (e : Refusal) → run w s o l .answer ≡ Refused e → run w s o l .out ≡ o

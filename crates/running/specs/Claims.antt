@@ -4,7 +4,7 @@ use Prim.Native.Nat.{ℕ, _+_, _-_, _*_, _≤_, _<_}
 use mathlib.Core.Path.{_≡_}
 use mathlib.Core.List.{List, [], _∷_, _++_, map}
 use mathlib.Core.Logic.{_⊎_}
-use mathlib.Core.Option.{none, some}
+use mathlib.Core.Option.{Option, none, some}
 use lib.ListN.{length, take, drop, getD}
 use Rattle.calculus.specs.Tree.{Tree, size}
 use Rattle.calculus.specs.declared.Uses.{Uses}
@@ -27,7 +27,7 @@ use Rattle.applying.specs.Machine.{Turn, more, done, stop, uses, made}
 use Rattle.applying.specs.Apply.{begin}
 use Rattle.applying.specs.Lacks.{Halts}
 use Rattle.fields.specs.Packet.{Packet, packet}
-use Rattle.running.specs.Run.{run, ranNumbers, ranUses}
+use Rattle.running.specs.Run.{texts, run, ranNumbers, ranUses}
 use Rattle.running.specs.declared.Ran.{Ran}
 use Rattle.running.specs.declared.Ran.the-variants.{Text, Refused}
 
@@ -37,18 +37,24 @@ pub record Fit (w s o : List ℕ) : Type 0 where
   pub stack : length s ≤ 65536
   pub out : length o ≤ 65535
 
--- "4: its arguments' texts, first to last.": the first of the texts that Read does not take
+-- "4: its arguments' texts, first to last.", and then the label's ([1]): the first of the texts that Read does not take
 pub data Unreadable : List (List ℕ) → Type 0 where
   here : {l : List ℕ} {ls : List (List ℕ)} → readable l ≡ none → Unreadable (l ∷ ls)
   there : {l : List ℕ} {ls : List (List ℕ)} {x : Tree} → readable l ≡ some x → Unreadable ls → Unreadable (l ∷ ls)
 
--- What holds where none of the four checks refuses: the lengths fit, the bytes l are the packet p, its rule is the term t, and each of its arguments'
--- texts is one that Read takes, of the trees args in order.
+-- "The depot reader checks that text" ([1]): the label's text, where there is one, is one that Read takes
+pub data LabelReads : Option (List ℕ) → Type 0 where
+  no-label : LabelReads none
+  label-of : {v : List ℕ} {x : Tree} → readable v ≡ some x → LabelReads (some v)
+
+-- What holds where none of the four checks refuses: the lengths fit, the bytes l are the packet p, its rule is the term t, each of its arguments' texts
+-- is one that Read takes, of the trees args in order, and so is its label's.
 pub record Checked (w s o l : List ℕ) (p : Packet) (t : Term) (args : List Tree) : Type 0 where
   pub fit : Fit w s o
   pub is-packet : packet l ≡ some p
   pub is-rule : rule (p .rule) ≡ some t
   pub are-texts : map readable (p .arguments) ≡ map some args
+  pub label-reads : LabelReads (p .label)
 
 -- the digits of all texts
 unfoldable pub total : List (List ℕ) → ℕ
@@ -90,6 +96,11 @@ abbrev pub nodesMade : List ℕ → List ℕ → Packet → Term → List Tree �
 nodesMade w s p t args =
     size (ruleTree t) + total (p .arguments)
     + madeAll (frames s) (p .limit) (laidTable (ruleLaid w t .table) args) (ruleLaid w t .node) (laidNodes (ruleLaid w t .table) args)
+
+-- What Translate lacks: "8: tree larger than the free nodes. 9: fewer than two frames for each node of the tree."
+pub data TranslateStops (w s : List ℕ) (t : Term) : Refusal → Type 0 where
+  translate-nodes : capacity w < size (ruleTree t) → TranslateStops w s t Nodes
+  translate-frames : size (ruleTree t) ≤ capacity w → frames s < 2 * size (ruleTree t) → TranslateStops w s t Frames
 
 -- What Translate had where it succeeds: "8: tree larger than the free nodes. 9: fewer than two frames for each node of the tree."
 pub record TranslateHad (w s : List ℕ) (t : Term) : Type 0 where
@@ -138,8 +149,7 @@ madeUntil {s = s} {p = p} x = made (frames s) (p .limit - steps (x .k)) (begin (
 -- What the first stage that cannot go on lacks, and the m nodes that were made since Run's entry: "Then Translate, Read of each argument, Apply in
 -- order under one step limit, Write, each with its 7 to 10." The stages before it had what they needed.
 pub data Stops (w s o : List ℕ) (p : Packet) (t : Term) (args : List Tree) : Refusal → ℕ → Type 0 where
-  translate-nodes : capacity w < size (ruleTree t) → Stops w s o p t args Nodes 0
-  translate-frames : size (ruleTree t) ≤ capacity w → frames s < 2 * size (ruleTree t) → Stops w s o p t args Frames 0
+  in-translate : {e : Refusal} → TranslateStops w s t e → Stops w s o p t args e 0
   in-read : {e : Refusal} {m : ℕ} → TranslateHad w s t → ReadStops w s (size (ruleTree t)) (p .arguments) e m → Stops w s o p t args e m
   in-apply : {e : Refusal} {m : ℕ} → TranslateHad w s t → ReadsHad w s (size (ruleTree t)) (p .arguments) → (x : ApplyStops w s p t args e)
       → m ≡ nodesMade w s p t args → m ≡ nodesBy p t (x .k) + madeUntil x → Stops w s o p t args e m
@@ -148,13 +158,13 @@ pub data Stops (w s o : List ℕ) (p : Packet) (t : Term) (args : List Tree) : R
       → m ≡ nodesMade w s p t args → m ≡ nodesBy p t k → Stops w s o p t args e m
 
 -- What was not so where Run refuses with e, and the whole outcome x: "1: lengths only. 6: packet broken. 5: its rule. 4: its arguments' texts, first to
--- last." These "leave lent memory as found". Then a stage stops with 7 to 10: the words of the m nodes made since Run's entry are 0 and all others as
+-- last.", and then the label's ([1]). These "leave lent memory as found". Then a stage stops with 7 to 10: the words of the m nodes made since Run's entry are 0 and all others as
 -- found, the stack is 0, and "the out bytes stay as at entry".
 pub data Refuses (w s o l : List ℕ) (x : Outcome Ran) : Refusal → Type 0 where
   too-long : (Fit w s o → ⊥) → x ≡ wholeOut (Refused Limits) w s o → Refuses w s o l x Limits
   no-packet : Fit w s o → packet l ≡ none → x ≡ wholeOut (Refused refusal.Packet) w s o → Refuses w s o l x refusal.Packet
   no-rule : Fit w s o → {p : Packet} → packet l ≡ some p → rule (p .rule) ≡ none → x ≡ wholeOut (Refused Rule) w s o → Refuses w s o l x Rule
-  no-text : Fit w s o → {p : Packet} → packet l ≡ some p → {t : Term} → rule (p .rule) ≡ some t → Unreadable (p .arguments)
+  no-text : Fit w s o → {p : Packet} → packet l ≡ some p → {t : Term} → rule (p .rule) ≡ some t → Unreadable (texts p)
       → x ≡ wholeOut (Refused refusal.Text) w s o → Refuses w s o l x refusal.Text
   stops : {p : Packet} {t : Term} {args : List Tree} → Checked w s o l p t args → {e : Refusal} {m : ℕ} → Stops w s o p t args e m → m ≤ capacity w
       → x ≡ wholeOut (Refused e) (cleared w 0 (m * 2)) (zeros s) o → Refuses w s o l x e
@@ -177,7 +187,7 @@ abbrev pub BadRule : List ℕ → List ℕ → List ℕ → List ℕ → Type 0
 BadRule w s o l = Fit w s o × (p : Packet) × (packet l ≡ some p) × (rule (p .rule) ≡ none)
 
 abbrev pub BadText : List ℕ → List ℕ → List ℕ → List ℕ → Type 0
-BadText w s o l = Fit w s o × (p : Packet) × (packet l ≡ some p) × (t : Term) × (rule (p .rule) ≡ some t) × Unreadable (p .arguments)
+BadText w s o l = Fit w s o × (p : Packet) × (packet l ≡ some p) × (t : Term) × (rule (p .rule) ≡ some t) × Unreadable (texts p)
 
 -- What is claimed of a Run that writes n digits after j steps, with the uses k, and leaves u nodes in use.
 pub record Completes (w s o l : List ℕ) (j u n : ℕ) (k : Uses) : Type 0 where

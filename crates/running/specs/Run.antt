@@ -1,7 +1,7 @@
 -- The whole outcome of Run (Operations, Run). Assumes nothing: these are definitions.
 use Prim.Native.Nat.{ℕ, _-_, _*_}
 use mathlib.Core.Bool.{Bool, true, false, cond, _&&_}
-use mathlib.Core.List.{List, [], _∷_}
+use mathlib.Core.List.{List, [], _∷_, _++_}
 use mathlib.Core.Option.{Option, none, some}
 use lib.ListN.{length}
 use lib.Dec.{leb}
@@ -11,7 +11,7 @@ use Rattle.calculus.specs.Uses.{noUses, _⊕_, steps}
 use Rattle.calculus.specs.Term.{Term}
 use Rattle.calculus.specs.Bytes as bytes
 use Rattle.table.specs.Nodes.{cleared}
-use Rattle.table.specs.Outcome.{Outcome, wholeOut, zeros}
+use Rattle.table.specs.Outcome.{Outcome, wholeOut, unless, zeros}
 use Rattle.table.specs.Refusal.{Numbers, refusedNumbers}
 use Rattle.table.specs.declared.Refusal.{Refusal}
 use Rattle.table.specs.declared.Refusal.the-variants as refusal
@@ -87,14 +87,23 @@ unfolding isSome
 allReadable [] = true
 allReadable (l ∷ ls) = isSome (readable l) && allReadable ls
 
--- "6: packet broken. 5: its rule. 4: its arguments' texts, first to last."
-unfoldable pub runPacket : List ℕ → List ℕ → List ℕ → Option Packet → Outcome Ran
+-- a packet's texts in the order in which they are checked: "The depot reader checks that text after the arguments' texts" ([1])
+unfoldable pub labelTexts : Option (List ℕ) → List (List ℕ)
+labelTexts none = []
+labelTexts (some v) = v ∷ []
+
+abbrev pub texts : Packet → List (List ℕ)
+texts p = p .arguments ++ labelTexts (p .label)
+
+-- "5: its rule. 4: its arguments' texts, first to last.", and then the label's: what the rule's bytes r and the texts ls lack
+unfoldable pub partsLack : List ℕ → List (List ℕ) → Option Refusal
 unfolding isSome
+partsLack r ls = cond (isSome (bytes.rule r)) (cond (allReadable ls) none (some refusal.Text)) (some refusal.Rule)
+
+-- "6: packet broken.", then 5 and 4
+unfoldable pub runPacket : List ℕ → List ℕ → List ℕ → Option Packet → Outcome Ran
 runPacket w s o none = wholeOut (Refused refusal.Packet) w s o
-runPacket w s o (some p) =
-    cond (isSome (bytes.rule (p .rule)))
-    (cond (allReadable (p .arguments)) (stages w s o p) (wholeOut (Refused refusal.Text) w s o))
-    (wholeOut (Refused refusal.Rule) w s o)
+runPacket w s o (some p) = unless (partsLack (p .rule) (texts p)) (λ e. wholeOut (Refused e) w s o) (stages w s o p)
 
 -- "1: lengths only."
 unfoldable pub lengthsFit : List ℕ → List ℕ → List ℕ → Bool

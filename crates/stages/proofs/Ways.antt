@@ -14,18 +14,13 @@ use borrow.Author.Tests.{le-leb, ltb-true, ltb-false}
 use Rattle.calculus.specs.declared.Uses.{Uses}
 use Rattle.calculus.specs.Uses.{noUses, _⊕_, steps}
 use Rattle.calculus.specs.Bytes.{rule}
-use Rattle.table.specs.Nodes.{Sound, sound, cleared, treeAt}
-use Rattle.table.specs.Outcome.{Outcome, Entered, whole, wholeOut}
+use Rattle.table.specs.Outcome.{Outcome, whole}
 use Rattle.table.specs.declared.Refusal.{Refusal}
 use Rattle.table.specs.declared.Made.{Made}
 use Rattle.table.specs.declared.Made.the-variants as made
-use Rattle.table.proofs.Words.{zero-one, cleared-all}
+use Rattle.table.proofs.Words.{zero-one}
 use Rattle.ternary.specs.Read.{read, readable, readTree}
-use Rattle.ternary.specs.Write.{writeTree, write}
-use Rattle.ternary.specs.declared.Written.{Written}
-use Rattle.ternary.specs.declared.Written.the-variants as written
 use Rattle.ternary.proofs.Reading.{entered-read, read-gives}
-use Rattle.ternary.proofs.Writes.{entered-write}
 use Rattle.translation.specs.Translate.{translateRule, translate}
 use Rattle.translation.proofs.Translates.{entered-translate, translate-gives}
 use Rattle.applying.specs.Apply.{applyNodes, apply}
@@ -36,54 +31,15 @@ use Rattle.applying.proofs.Follows.{apply-follows}
 use Rattle.fields.specs.Packet.{Packet}
 use Rattle.packet.specs.Code.{endAt, valueAt, Stand, valuesAt}
 use Rattle.packet.proofs.Parts.{next-field}
-use Rattle.running.specs.Run.{stopped, afterMade, afterApplied, afterWritten, writes, applies, reads, stages}
+use Rattle.running.specs.Run.{stopped, afterMade, afterApplied, writes, applies, reads, stages}
 use Rattle.running.specs.declared.Ran.{Ran}
-use Rattle.running.specs.declared.Ran.the-variants.{Text, Refused}
-use Rattle.stages.specs.Ready.{Ready, NodesIn}
+use Rattle.endings.specs.Ready.{Ready}
+use Rattle.endings.proofs.Ways.{entered-by}
+use Rattle.stages.specs.NodesIn.{NodesIn}
 
--- ---- a refusal at a stage, and an answer that is none
-
-pub is-stopped : (w : List ℕ) (u : ℕ) (s o : List ℕ) {e : Refusal} {z y : List ℕ} → z ≡ cleared w 0 (u * 2) → y ≡ cleared s 0 (length s)
-    → wholeOut (Refused e) z y o ≡ stopped e w u s o
-unfolding stopped
-is-stopped w u s o p q = rw (p, q, cleared-all s)
-
-pub made-not : {a : Made} {e : Refusal} → a ≡ made.Refused e → (n u : ℕ) → a ≡ made.Node n u → ⊥
-made-not p n u q = zero-one (cc)
-
+-- an answer that is none
 pub applied-not : {a : Applied} {e : Refusal} → a ≡ applied.Refused e → (n u j : ℕ) (k : Uses) → a ≡ applied.Node n u j k → ⊥
 applied-not p n u j k q = zero-one (cc)
-
-pub written-not : {a : Written} {e : Refusal} → a ≡ written.Refused e → (n : ℕ) → a ≡ written.Digits n → ⊥
-written-not p n q = zero-one (cc)
-
--- the words of the nodes in use are within the table
-pub in-table : {w : List ℕ} {u : ℕ} {s o : List ℕ} → Ready w u s o → u * 2 ≤ length w
-in-table r = omega (arith, r .fine .within)
-
--- "with the table taken as empty": no node is in use, so none is broken
-pub empty-ready : {w s o : List ℕ} → length w ≤ 131072 → length s ≤ 65536 → length o ≤ 65535 → Ready w 0 s o
-unfolding sound
-empty-ready a b c = record { fine = record { short = a; within = omega arith; unbroken = refl }; stack = b; out = c }
-
--- what the checks at entry ask holds
-entered-by : {within : Bool} {w : List ℕ} {u : ℕ} {s o : List ℕ} → Ready w u s o → within ≡ true → Entered within w u s
-entered-by r e = record { table = r .fine; stack = r .stack; limits-kept = e }
-
--- ---- Write
-
-module _ {w : List ℕ} {u : ℕ} {s o : List ℕ} {v : ℕ} (k : Uses) (r : Ready w u s o) (h : v < u) {a : Written} {y z : List ℕ}
-    (e : wholeOut a w y z ≡ writeTree w s o (treeAt w v)) where
-  is-write : wholeOut a w y z ≡ write w u s v o
-  is-write = e ∙ entered-write w u s v o (entered-by r (le-leb (length o) 65535 (r .out))) h
-
-  pub is-text : {j n : ℕ} → j ≡ steps k → a ≡ written.Digits n → wholeOut (Text j u n k) w y z ≡ writes w u s o v k
-  unfolding writes afterWritten
-  is-text l q = rw (← is-write, q, l)
-
-  pub stops-write : {x : Outcome Ran} {c : Refusal} → a ≡ written.Refused c → x ≡ stopped c w u y z → x ≡ writes w u s o v k
-  unfolding writes afterWritten
-  stops-write q g = rw (← is-write, q) g
 
 -- ---- Apply, of count argument nodes, i of them applied
 

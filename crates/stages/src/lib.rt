@@ -1,38 +1,28 @@
 // The stages of Run on a packet that passed the checks: Translate, Read of each argument, Apply in order, Write. Each stage is a function that ends
-// in the next one, as in the definition (the crate `running`), and takes its inner answer apart: a refusal clears what was made since Run's entry.
+// in the next one, as in the definition (the crate `running`), and takes its inner answer apart: a refusal clears what was made since Run's entry
+// (the crate `endings`).
 // The table is sound throughout, so each stage is the inner operation, and no node is looked at again. specs/ says what the stages ask.
 use applying::Applied;
 use calculus::Uses;
 use running::Ran;
 use table::Made;
 use table::Refusal;
-use ternary::Written;
 ghost use mathlib.Core.Path.{_≡_};
 ghost use mathlib.Core.List.{List};
 ghost use Prim.Native.Nat.{ℕ, _*_, _≤_, _<_};
 ghost use lib.ListN.{length, take};
-ghost use Rattle.calculus.specs.Uses.{noUses, steps};
+ghost use Rattle.calculus.specs.Uses.{noUses};
 ghost use Rattle.table.specs.Outcome.{wholeOut};
-ghost use Rattle.packet.specs.Code.{endAt, valueAt, Stand, valuesAt};
-ghost use Rattle.running.specs.Run.{stopped, writes, applies, reads, stages};
-ghost use Rattle.stages.specs.Ready.{Ready, NodesIn};
+ghost use Rattle.packet.specs.Code.{endAt, Stand, valuesAt, packetAt};
+ghost use Rattle.running.specs.Run.{applies, reads, stages};
+ghost use Rattle.endings.specs.Ready.{Ready};
+ghost use Rattle.stages.specs.NodesIn.{NodesIn};
 
 // What is to be applied once the rule is translated: its node, to so many arguments, under this step limit.
 struct Applications {
     rule: usize,
     count: usize,
     limit: usize,
-}
-
-// The refusal of Translate or Read, where there is one.
-fn made_refusal(made: Made) -> Refusal
-    requires { ⌜ ((n u : ℕ) → made ≡ Made.Node n u → ⊥) ⌝ }
-    ensures { λ r. ⌜ made ≡ Made.Refused r ⌝ }
-{
-    match made {
-        Made::Refused(refusal) => refusal,
-        Made::Node { node: _, used: _ } => Refusal::Limits,
-    }
 }
 
 // The refusal of Apply, where there is one.
@@ -48,53 +38,6 @@ fn applied_refusal(applied: Applied) -> Refusal
             steps: _,
             uses: _,
         } => Refusal::Limits,
-    }
-}
-
-// The refusal of Write, where there is one.
-fn written_refusal(written: Written) -> Refusal
-    requires { ⌜ ((n : ℕ) → written ≡ Written.Digits n → ⊥) ⌝ }
-    ensures { λ r. ⌜ written ≡ Written.Refused r ⌝ }
-{
-    match written {
-        Written::Refused(refusal) => refusal,
-        Written::Digits(_) => Refusal::Limits,
-    }
-}
-
-// A stage was refused with `used` nodes in use before it: every node made since Run's entry is cleared, and the stack.
-fn stop(table: &mut [u32], used: usize, stack: &mut [u32], refusal: Refusal) -> Ran
-    requires { ⌜ used * 2 ≤ length (now table) ⌝ }
-    ensures { λ r. ⌜ ((o : List ℕ) → wholeOut r (now (table .exit)) (now (stack .exit)) o ≡ stopped refusal (now (table .entry)) used (now (stack .entry)) o) ⌝ }
-{
-    let len = stack.len();
-    nodes::clear(table, 0, used * 2);
-    nodes::clear(stack, 0, len);
-    Ran::Refused(refusal)
-}
-
-// Writes the outcome, a node that came of these uses.
-fn write_outcome(
-    table: &mut [u32],
-    used: usize,
-    stack: &mut [u32],
-    out: &mut [u8],
-    node: usize,
-    uses: Uses,
-) -> Ran
-    requires { ⌜ Ready (now table) used (now stack) (now out) × (node < used) × (steps uses ≤ 1000000) ⌝ }
-    ensures { λ r. ⌜ wholeOut r (now (table .exit)) (now (stack .exit)) (now (out .exit))
-        ≡ writes (now (table .entry)) used (now (stack .entry)) (now (out .entry)) node uses ⌝ }
-{
-    let written = writer::write_node(table, used, stack, node, out);
-    let Written::Digits(digits) = written else {
-        return stop(table, used, stack, written_refusal(written));
-    };
-    Ran::Text {
-        steps: counts::sum(uses),
-        used: used,
-        digits: digits,
-        uses: uses,
     }
 }
 
@@ -134,14 +77,14 @@ fn apply_all(
             uses: taken,
         } = applied
         else {
-            return stop(table, in_use, stack, applied_refusal(applied));
+            return endings::stop(table, in_use, stack, applied_refusal(applied));
         };
         node = given;
         in_use = used_then;
         uses = counts::plus(uses, taken);
         done += 1;
     }
-    write_outcome(table, in_use, stack, out, node, uses)
+    endings::write_outcome(table, in_use, stack, out, node, uses)
 }
 
 // Reads each argument's text in order, from a position of the packet on.
@@ -174,7 +117,7 @@ fn read_all(
             used: used_then,
         } = made
         else {
-            return stop(table, in_use, stack, made_refusal(made));
+            return endings::stop(table, in_use, stack, endings::made_refusal(made));
         };
         nodes[kept] = node;
         at = end;
@@ -184,7 +127,7 @@ fn read_all(
     apply_all(table, in_use, stack, out, nodes, work)
 }
 
-// The stages of Run on a packet that passed the checks.
+// The stages of Run on a packet that passed the checks. A label is passed over: they are those of the packet without it.
 pub fn run_stages(
     table: &mut [u32],
     stack: &mut [u32],
@@ -196,14 +139,14 @@ pub fn run_stages(
     requires { ⌜ Ready (now table) 0 (now stack) (now out) × (limit ≤ 1000000) × (count ≤ 8) × (endAt (now packet) 0 ≤ length (now packet)) × Stand (now packet) (endAt (now packet) 0) count ⌝ }
     ensures { λ r. ⌜ wholeOut r (now (table .exit)) (now (stack .exit)) (now (out .exit))
         ≡ stages (now (table .entry)) (now (stack .entry)) (now (out .entry))
-        (record { rule = valueAt (now (packet .entry)) 0; arguments = valuesAt (now (packet .entry)) (endAt (now (packet .entry)) 0) count; limit = limit }) ⌝ }
+        (packetAt (now (packet .entry)) count limit 0) ⌝ }
 {
     let part = packet::part_at(packet, 0);
     let start = part.start;
     let end = part.end;
     let made = term::translate_rule(table, 0, stack, &packet[start..end]);
     let Made::Node { node, used } = made else {
-        return stop(table, 0, stack, made_refusal(made));
+        return endings::stop(table, 0, stack, endings::made_refusal(made));
     };
     let work = Applications {
         rule: node,

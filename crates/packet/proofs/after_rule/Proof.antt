@@ -6,14 +6,15 @@ use lib.ListN.{length}
 use mathlib.Core.Path.{_≡_, refl, sym, ap, _∙_}
 use native.Mathlib.Omega.{arith}
 use borrow.Author.Needs.{needs}
-use Rattle.packet.specs.Code.{fieldsFrom, afterFields, formOf, counted}
-use Rattle.packet.proofs.Forms.{is-nothing, is-field, counted-none, after-broken, after-end, after-last, after-ninth, after-next}
+use Rattle.fields.specs.Packet.{afterRule}
+use Rattle.packet.specs.Code.{fieldsFrom, withFields, formOf, counted}
+use Rattle.packet.proofs.Forms.{is-nothing, is-field, counted-none, left-broken, after-end, after-last, after-ninth, after-next}
 use Rattle.packet.proofs.after_rule.Statement.{statement}
 use Rattle.packet.proofs.after_rule.Tie as tie
 
 abbrev Inv-loop : tie.InvT-loop
 Inv-loop packet from at₀ count₀ at count = (at ≤ length packet) × (count ≤ 8)
-    × ((q : List ℕ) → counted count (formOf (afterFields q (8 - count) (fieldsFrom packet at))) ≡ formOf (afterFields q 8 (fieldsFrom packet from)))
+    × ((q : List ℕ) → counted count (formOf (withFields (afterRule q (8 - count)) (fieldsFrom packet at))) ≡ formOf (withFields (afterRule q 8) (fieldsFrom packet from)))
 
 abbrev μ-loop : tie.MeasureT-loop
 μ-loop packet from at₀ count₀ at count = length packet - at
@@ -31,17 +32,17 @@ enum-told : tie.Need-enum-told Inv-loop μ-loop
 enum-told c = search needs
 
 returns : tie.Need-returns Inv-loop μ-loop
-returns c = λ q. after-broken (c .before .before .before .before .before .before .args .packet .now) (c .before .before .before .before .loop .at) (c .before .before .before .before .loop .count) q _ (c .before .before .before .loop-test .taken) (is-nothing (c .before .before .before .before .before .before .args .packet .now) (c .before .before .before .before .loop .at) (sym (c .enum-told .given .1) ∙ c .before .before .field-at .ensures)) ∙ c .before .before .before .before .loop .inv .2 q
+returns c = λ q. left-broken (c .before .before .before .before .before .before .args .packet .now) (c .before .before .before .before .loop .at) (c .before .before .before .before .loop .count) q _ (c .before .before .before .loop-test .taken) (is-nothing (c .before .before .before .before .before .before .args .packet .now) (c .before .before .before .before .loop .at) (sym (c .enum-told .given .1) ∙ c .before .before .field-at .ensures)) ∙ c .before .before .before .before .loop .inv .2 q
 
-last-field-requires : tie.Need-last-field-requires Inv-loop μ-loop
-last-field-requires c κs =
+after-arguments-requires : tie.Need-after-arguments-requires Inv-loop μ-loop
+after-arguments-requires c κs =
     let g = is-field (c .before .before .before .before .before .before .before .before .args .packet .now) (c .before .before .before .before .before .before .loop .at) _ _ (sym (c .before .before .tag .given .1) ∙ c .before .before .before .before .field-at .ensures) in
     g .2
 
 returns-2 : tie.Need-returns-2 Inv-loop μ-loop
 returns-2 c =
     let g = is-field (c .before .before .before .before .before .before .before .before .before .args .packet .now) (c .before .before .before .before .before .before .before .loop .at) _ _ (sym (c .before .before .before .tag .given .1) ∙ c .before .before .before .before .before .field-at .ensures) in
-    λ q. c .last-field .ensures q ∙ after-last (c .before .before .before .before .before .before .before .before .before .args .packet .now) (c .before .before .before .before .before .before .before .loop .at) (c .before .before .before .before .before .before .before .loop .count) q (g .2) _ (λ e. c .before .if1 .taken (g .0 ∙ e)) ∙ c .before .before .before .before .before .before .before .loop .inv .2 q
+    λ q. c .after-arguments .ensures q ∙ after-last (c .before .before .before .before .before .before .before .before .before .args .packet .now) (c .before .before .before .before .before .before .before .loop .at) (c .before .before .before .before .before .before .before .loop .count) q (g .2) _ (λ e. c .before .if1 .taken (g .0 ∙ e)) ∙ c .before .before .before .before .before .before .before .loop .inv .2 q
 
 returns-3 : tie.Need-returns-3 Inv-loop μ-loop
 returns-3 c =
@@ -75,7 +76,7 @@ after-rule-spec =
     enum-known-tag
     enum-told
     returns
-    last-field-requires
+    after-arguments-requires
     returns-2
     returns-3
     add-count

@@ -1,22 +1,16 @@
--- `run::run` meets its contract: 1, lengths only, and then the packet. Assumes nothing.
-use mathlib.Core.Path.{_≡_, refl, sym, ap, _∙_}
-use native.Mathlib.Omega.{arith}
-use Rattle.run.proofs.Ways.{long-table, long-stack, long-out, lengths-fit}
+-- `run::run` meets its contract: 1, 6, 5, 4, and then the stages. Assumes nothing.
+use mathlib.Core.Path.{_≡_, refl, sym, _∙_}
+use borrow.Author.Tests.{not-true, not-false}
+use Rattle.packet.proofs.Parts.{packet-parts}
+use Rattle.running.proofs.Limit.{packet-limit}
+use Rattle.endings.proofs.Ways.{empty-ready}
+use Rattle.run.proofs.Ways.{too-long, packet-none, refused, passed}
 use borrow.Author.Needs.{needs}
 use Rattle.run.proofs.run.Statement.{statement}
 use Rattle.run.proofs.run.Tie as tie
 
-returns : tie.Need-returns
-returns c = long-table (c .before .before .before .before .before .args .table .now) (c .before .before .before .before .before .args .stack .now) (c .before .before .before .before .before .args .out .now) (c .before .before .before .before .before .args .packet .now) (c .if1 .taken)
-
-returns-2 : tie.Need-returns-2
-returns-2 c = long-stack (c .before .before .before .before .before .before .args .table .now) (c .before .before .before .before .before .before .args .stack .now) (c .before .before .before .before .before .before .args .out .now) (c .before .before .before .before .before .before .args .packet .now) (c .before .if1 .left) (c .if2 .taken)
-
-returns-3 : tie.Need-returns-3
-returns-3 c = long-out (c .before .before .before .before .before .before .before .args .table .now) (c .before .before .before .before .before .before .before .args .stack .now) (c .before .before .before .before .before .before .before .args .out .now) (c .before .before .before .before .before .before .before .args .packet .now) (c .before .before .if1 .left) (c .before .if2 .left) (c .if3 .taken)
-
-run-packet-requires : tie.Need-run-packet-requires
-run-packet-requires c κs = search needs
+lengths-fit-requires : tie.Need-lengths-fit-requires
+lengths-fit-requires c κs = search needs
 
 same-length : tie.Need-same-length
 same-length c = search needs
@@ -27,18 +21,109 @@ same-length-2 c = search needs
 same-length-3 : tie.Need-same-length-3
 same-length-3 c = search needs
 
+returns : tie.Need-returns
+returns c =
+    let a = c .before .before .before .before .before .before .before .before .before .args in
+    too-long (a .table .now) (a .stack .now) (a .out .now) (a .packet .now) (c .before .lengths-fit .ensures) (not-true _ (c .if1 .taken))
+
+read-packet-requires : tie.Need-read-packet-requires
+read-packet-requires c κs = search needs
+
+enum-known-arguments : tie.Need-enum-known-arguments
+enum-known-arguments c = search needs
+
+enum-told : tie.Need-enum-told
+enum-told c = search needs
+
+same-length-4 : tie.Need-same-length-4
+same-length-4 c = search needs
+
+same-length-5 : tie.Need-same-length-5
+same-length-5 c = search needs
+
+same-length-6 : tie.Need-same-length-6
+same-length-6 c = search needs
+
+returns-2 : tie.Need-returns-2
+returns-2 c =
+    let a = c .before .before .before .before .before .before .before .before .before .before .before .before .args in
+    packet-none (a .table .now) (a .stack .now) (a .out .now) (a .packet .now) (c .before .before .before .before .lengths-fit .ensures) (not-false _ (c .before .before .before .if1 .left))
+    (sym (c .enum-told .given .1) ∙ c .before .before .read-packet .ensures)
+
+check-parts-requires : tie.Need-check-parts-requires
+check-parts-requires c κs =
+    let p = packet-parts (c .before .before .before .before .before .before .before .before .before .before .before .before .before .args .packet .now) _ _ _ (sym (c .before .arguments .given .1) ∙ c .before .before .before .read-packet .ensures) in
+    (p .rule-stands, p .stand, p .label-stands)
+
+enum-known-checked : tie.Need-enum-known-checked
+enum-known-checked c = search needs
+
+same-length-7 : tie.Need-same-length-7
+same-length-7 c = search needs
+
+same-length-8 : tie.Need-same-length-8
+same-length-8 c = search needs
+
+same-length-9 : tie.Need-same-length-9
+same-length-9 c = search needs
+
+returns-3 : tie.Need-returns-3
+returns-3 c =
+    let a = c .before .before .before .before .before .before .before .before .before .before .before .before .before .before .before .before .before .args in
+    let p = packet-parts (a .packet .now) _ _ _ (sym (c .before .before .before .before .before .arguments .given .1) ∙ c .before .before .before .before .before .before .before .read-packet .ensures) in
+    refused (a .table .now) (a .stack .now) (a .out .now) (a .packet .now) (c .before .before .before .before .before .before .before .before .before .lengths-fit .ensures) (not-false _ (c .before .before .before .before .before .before .before .before .if1 .left)) p
+    (rw (c .before .checked .given .1) at (c .before .before .before .check-parts .ensures))
+
+enum-told-2 : tie.Need-enum-told-2
+enum-told-2 c = search needs
+
+run-stages-requires : tie.Need-run-stages-requires
+run-stages-requires c κs =
+    let a = c .before .before .before .before .before .before .before .before .before .before .before .before .before .before .before .before .before .before .before .args in
+    let p = packet-parts (a .packet .now) _ _ _ (sym (c .before .before .before .before .before .before .before .arguments .given .1) ∙ c .before .before .before .before .before .before .before .before .before .read-packet .ensures) in
+    (empty-ready (a .table .now) (a .stack .now) (a .out .now) (sym (c .before .before .before .before .before .before .before .before .before .before .before .lengths-fit .ensures) ∙ not-false _ (c .before .before .before .before .before .before .before .before .before .before .if1 .left)), packet-limit (a .packet .now) (p .is-packet), p .few, p .rule-stands, p .stand)
+
+same-length-10 : tie.Need-same-length-10
+same-length-10 c = search needs
+
+same-length-11 : tie.Need-same-length-11
+same-length-11 c = search needs
+
+same-length-12 : tie.Need-same-length-12
+same-length-12 c = search needs
+
 returns-4 : tie.Need-returns-4
-returns-4 c = c .before .before .before .before .before .before .run-packet .ensures ∙ lengths-fit (c .before .before .before .before .before .before .before .before .before .before .before .before .before .before .before .before .before .args .table .now) (c .before .before .before .before .before .before .before .before .before .before .before .before .before .before .before .before .before .args .stack .now) (c .before .before .before .before .before .before .before .before .before .before .before .before .before .before .before .before .before .args .out .now) (c .before .before .before .before .before .before .before .before .before .before .before .before .before .before .before .before .before .args .packet .now) (c .before .before .before .before .before .before .before .before .before .before .before .before .if1 .left) (c .before .before .before .before .before .before .before .before .before .before .before .if2 .left) (c .before .before .before .before .before .before .before .before .before .before .if3 .left)
+returns-4 c =
+    let a = c .before .before .before .before .before .before .before .before .before .before .before .before .before .before .before .before .before .before .before .before .before .before .before .before .before .before .args in
+    let p = packet-parts (a .packet .now) _ _ _ (sym (c .before .before .before .before .before .before .before .before .before .before .before .before .before .before .arguments .given .1) ∙ c .before .before .before .before .before .before .before .before .before .before .before .before .before .before .before .before .read-packet .ensures) in
+    c .before .before .before .before .before .before .run-stages .ensures ∙ passed (a .table .now) (a .stack .now) (a .out .now) (a .packet .now) (c .before .before .before .before .before .before .before .before .before .before .before .before .before .before .before .before .before .before .lengths-fit .ensures) (not-false _ (c .before .before .before .before .before .before .before .before .before .before .before .before .before .before .before .before .before .if1 .left)) p
+    (rw (c .before .before .before .before .before .before .before .before .before .before .enum-told2 .given .1) at (c .before .before .before .before .before .before .before .before .before .before .before .before .check-parts .ensures))
 
 pub run-spec : {M : Type 1} → statement M
 run-spec =
     tie.close
     (tie.spec
-    returns
-    returns-2
-    returns-3
-    run-packet-requires
+    lengths-fit-requires
     same-length
     same-length-2
     same-length-3
+    returns
+    read-packet-requires
+    enum-known-arguments
+    enum-told
+    same-length-4
+    same-length-5
+    same-length-6
+    returns-2
+    check-parts-requires
+    enum-known-checked
+    same-length-7
+    same-length-8
+    same-length-9
+    returns-3
+    enum-told-2
+    run-stages-requires
+    same-length-10
+    same-length-11
+    same-length-12
     returns-4)

@@ -4,7 +4,8 @@ use lib.ListN.{length}
 use mathlib.Core.Path.{_≡_, refl, sym, ap, _∙_}
 use native.Mathlib.Omega.{arith}
 use borrow.Author.Needs.{needs}
-use Rattle.stages.proofs.Ways.{applied-not, in-table, Applying, applies-begin, argument-in, applies-end, applies-next, applies-stop, applies-steps}
+use Rattle.endings.proofs.Ways.{in-table}
+use Rattle.stages.proofs.Ways.{applied-not, Applying, applies-begin, argument-in, applies-end, applies-next, applies-stop, applies-steps}
 use Rattle.stages.proofs.apply_all.Statement.{statement}
 use Rattle.stages.proofs.apply_all.Tie as tie
 

@@ -8,7 +8,8 @@ use borrow.Author.Needs.{needs}
 use Rattle.calculus.specs.Uses.{noUses}
 use Rattle.packet.proofs.Parts.{next-field, part-value}
 use Rattle.running.specs.Run.{applies}
-use Rattle.stages.proofs.Ways.{made-not, in-table, Reading, reads-begin, reads-all, reads-end, reads-next, reads-stop}
+use Rattle.endings.proofs.Ways.{made-not, in-table}
+use Rattle.stages.proofs.Ways.{Reading, reads-begin, reads-all, reads-end, reads-next, reads-stop}
 use Rattle.stages.proofs.read_all.Statement.{statement}
 use Rattle.stages.proofs.read_all.Tie as tie
 

@@ -1,9 +1,10 @@
 -- `stages::run_stages` meets its contract. Assumes nothing.
 use mathlib.Core.Path.{_≡_, refl, sym, ap, _∙_}
 use native.Mathlib.Omega.{arith}
-use Rattle.packet.specs.Code.{endAt, valueAt, valuesAt}
+use Rattle.packet.specs.Code.{packetAt}
 use Rattle.packet.proofs.Parts.{part-value}
-use Rattle.stages.proofs.Ways.{made-not, stages-next, stages-stop, stages-ready}
+use Rattle.endings.proofs.Ways.{made-not}
+use Rattle.stages.proofs.Ways.{stages-next, stages-stop, stages-ready}
 use borrow.Author.Needs.{needs}
 use Rattle.stages.proofs.run_stages.Statement.{statement}
 use Rattle.stages.proofs.run_stages.Tie as tie
@@ -42,11 +43,11 @@ same-length-2 : tie.Need-same-length-2
 same-length-2 c = search needs
 
 returns : tie.Need-returns
-returns c = stages-stop (c .before .before .before .before .before .before .before .before .before .before .before .before .before .before .before .before .before .before .before .before .before .before .before .pre .0) (record { rule = valueAt (c .before .before .before .before .before .before .before .before .before .before .before .before .before .before .before .before .before .before .before .before .before .before .before .args .packet .now) 0; arguments = valuesAt (c .before .before .before .before .before .before .before .before .before .before .before .before .before .before .before .before .before .before .before .before .before .before .before .args .packet .now) (endAt (c .before .before .before .before .before .before .before .before .before .before .before .before .before .before .before .before .before .before .before .before .before .before .before .args .packet .now) 0) (c .before .before .before .before .before .before .before .before .before .before .before .before .before .before .before .before .before .before .before .before .before .before .before .args .count); limit = c .before .before .before .before .before .before .before .before .before .before .before .before .before .before .before .before .before .before .before .before .before .before .before .args .limit }) (rw (c .before .before .before .before .before .before .before .before .before .before .before .before .before .before .before .before .before .before .part-at .ensures, part-value (c .before .before .before .before .before .before .before .before .before .before .before .before .before .before .before .before .before .before .before .before .before .before .before .args .packet .now) 0) at (c .before .before .before .before .before .before .before .before .before .before .before .before .before .before .translate-rule .ensures)) (c .before .before .before .before .before .made-refusal .ensures) (c .before .before .before .before .stop .ensures _)
+returns c = stages-stop (c .before .before .before .before .before .before .before .before .before .before .before .before .before .before .before .before .before .before .before .before .before .before .before .pre .0) (packetAt (c .before .before .before .before .before .before .before .before .before .before .before .before .before .before .before .before .before .before .before .before .before .before .before .args .packet .now) (c .before .before .before .before .before .before .before .before .before .before .before .before .before .before .before .before .before .before .before .before .before .before .before .args .count) (c .before .before .before .before .before .before .before .before .before .before .before .before .before .before .before .before .before .before .before .before .before .before .before .args .limit) 0) (rw (c .before .before .before .before .before .before .before .before .before .before .before .before .before .before .before .before .before .before .part-at .ensures, part-value (c .before .before .before .before .before .before .before .before .before .before .before .before .before .before .before .before .before .before .before .before .before .before .before .args .packet .now) 0) at (c .before .before .before .before .before .before .before .before .before .before .before .before .before .before .translate-rule .ensures)) (c .before .before .before .before .before .made-refusal .ensures) (c .before .before .before .before .stop .ensures _)
 
 read-all-requires : tie.Need-read-all-requires
 read-all-requires c κs =
-    let r = stages-ready (c .before .before .before .before .before .before .before .before .before .before .before .before .before .before .before .before .before .before .before .pre .0) (record { rule = valueAt (c .before .before .before .before .before .before .before .before .before .before .before .before .before .before .before .before .before .before .before .args .packet .now) 0; arguments = valuesAt (c .before .before .before .before .before .before .before .before .before .before .before .before .before .before .before .before .before .before .before .args .packet .now) (endAt (c .before .before .before .before .before .before .before .before .before .before .before .before .before .before .before .before .before .before .before .args .packet .now) 0) (c .before .before .before .before .before .before .before .before .before .before .before .before .before .before .before .before .before .before .before .args .count); limit = c .before .before .before .before .before .before .before .before .before .before .before .before .before .before .before .before .before .before .before .args .limit }) (rw (c .before .before .before .before .before .before .before .before .before .before .before .before .before .before .part-at .ensures, part-value (c .before .before .before .before .before .before .before .before .before .before .before .before .before .before .before .before .before .before .before .args .packet .now) 0) at (c .before .before .before .before .before .before .before .before .before .before .translate-rule .ensures)) (c .before .before .before .before .made .given .1) (c .before .before .before .before .before .before .before .before .before .before .translate-rule .kept .1 .1 .0) in
+    let r = stages-ready (c .before .before .before .before .before .before .before .before .before .before .before .before .before .before .before .before .before .before .before .pre .0) (packetAt (c .before .before .before .before .before .before .before .before .before .before .before .before .before .before .before .before .before .before .before .args .packet .now) (c .before .before .before .before .before .before .before .before .before .before .before .before .before .before .before .before .before .before .before .args .count) (c .before .before .before .before .before .before .before .before .before .before .before .before .before .before .before .before .before .before .before .args .limit) 0) (rw (c .before .before .before .before .before .before .before .before .before .before .before .before .before .before .part-at .ensures, part-value (c .before .before .before .before .before .before .before .before .before .before .before .before .before .before .before .before .before .before .before .args .packet .now) 0) at (c .before .before .before .before .before .before .before .before .before .before .translate-rule .ensures)) (c .before .before .before .before .made .given .1) (c .before .before .before .before .before .before .before .before .before .before .translate-rule .kept .1 .1 .0) in
     (r .0, r .1, c .before .before .before .before .before .before .before .before .before .before .before .before .before .before .before .before .before .before .before .pre .1, c .before .before .before .before .before .before .before .before .before .before .before .before .before .before .before .before .before .before .before .pre .2, rw (c .before .before .before .before .before .before .before .before .before .before .before .before .before .before .part-at .ensures) (c .before .before .before .before .before .before .before .before .before .before .before .before .before .before .before .before .before .before .before .pre .4))
 
 same-length-3 : tie.Need-same-length-3
@@ -59,7 +60,7 @@ same-length-5 : tie.Need-same-length-5
 same-length-5 c = search needs
 
 returns-2 : tie.Need-returns-2
-returns-2 c = stages-next (c .before .before .before .before .before .before .before .before .before .before .before .before .before .before .before .before .before .before .before .before .before .before .before .before .before .before .pre .0) (record { rule = valueAt (c .before .before .before .before .before .before .before .before .before .before .before .before .before .before .before .before .before .before .before .before .before .before .before .before .before .before .args .packet .now) 0; arguments = valuesAt (c .before .before .before .before .before .before .before .before .before .before .before .before .before .before .before .before .before .before .before .before .before .before .before .before .before .before .args .packet .now) (endAt (c .before .before .before .before .before .before .before .before .before .before .before .before .before .before .before .before .before .before .before .before .before .before .before .before .before .before .args .packet .now) 0) (c .before .before .before .before .before .before .before .before .before .before .before .before .before .before .before .before .before .before .before .before .before .before .before .before .before .before .args .count); limit = c .before .before .before .before .before .before .before .before .before .before .before .before .before .before .before .before .before .before .before .before .before .before .before .before .before .before .args .limit }) (rw (c .before .before .before .before .before .before .before .before .before .before .before .before .before .before .before .before .before .before .before .before .before .part-at .ensures, part-value (c .before .before .before .before .before .before .before .before .before .before .before .before .before .before .before .before .before .before .before .before .before .before .before .before .before .before .args .packet .now) 0) at (c .before .before .before .before .before .before .before .before .before .before .before .before .before .before .before .before .before .translate-rule .ensures)) (c .before .before .before .before .before .before .before .before .before .before .before .made .given .1) (rw (c .before .before .before .before .before .before .before .before .before .before .before .before .before .before .before .before .before .before .before .before .before .part-at .ensures) at (c .before .before .before .before .before .before .read-all .ensures))
+returns-2 c = stages-next (c .before .before .before .before .before .before .before .before .before .before .before .before .before .before .before .before .before .before .before .before .before .before .before .before .before .before .pre .0) (packetAt (c .before .before .before .before .before .before .before .before .before .before .before .before .before .before .before .before .before .before .before .before .before .before .before .before .before .before .args .packet .now) (c .before .before .before .before .before .before .before .before .before .before .before .before .before .before .before .before .before .before .before .before .before .before .before .before .before .before .args .count) (c .before .before .before .before .before .before .before .before .before .before .before .before .before .before .before .before .before .before .before .before .before .before .before .before .before .before .args .limit) 0) (rw (c .before .before .before .before .before .before .before .before .before .before .before .before .before .before .before .before .before .before .before .before .before .part-at .ensures, part-value (c .before .before .before .before .before .before .before .before .before .before .before .before .before .before .before .before .before .before .before .before .before .before .before .before .before .before .args .packet .now) 0) at (c .before .before .before .before .before .before .before .before .before .before .before .before .before .before .before .before .before .translate-rule .ensures)) (c .before .before .before .before .before .before .before .before .before .before .before .made .given .1) (rw (c .before .before .before .before .before .before .before .before .before .before .before .before .before .before .before .before .before .before .before .before .before .part-at .ensures) at (c .before .before .before .before .before .before .read-all .ensures))
 
 pub run-stages-spec : {M : Type 1} → statement M
 run-stages-spec =

@@ -1,0 +1,4 @@
+-- The theorems of the labelled rule of a packet; other crates cite them.
+pub mod Stages
+pub mod Refused
+pub mod Writes

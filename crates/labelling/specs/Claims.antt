@@ -1,0 +1,94 @@
+-- What is claimed of `label_packet`: where it is refused, what it lacked and which words it cleared; where it writes a text, which, and with how many
+-- nodes ([1]). Assumes nothing: these are definitions.
+use Prim.Native.Nat.{ℕ, _+_, _-_, _*_, _≤_, _<_}
+use mathlib.Core.Path.{_≡_}
+use mathlib.Core.List.{List, [], _∷_, _++_}
+use mathlib.Core.Logic.{_⊎_}
+use mathlib.Core.Option.{none, some}
+use lib.ListN.{length, take, drop, getD}
+use Rattle.calculus.specs.Tree.{Tree, size}
+use Rattle.calculus.specs.Uses.{noUses}
+use Rattle.calculus.specs.Term.{Term}
+use Rattle.calculus.specs.Bytes.{rule}
+use Rattle.calculus.specs.Abstraction.{ruleTree}
+use Rattle.table.specs.Nodes.{capacity, Sound, cleared}
+use Rattle.table.specs.Outcome.{Outcome, wholeOut, frames, zeros}
+use Rattle.table.specs.declared.Refusal.{Refusal}
+use Rattle.table.specs.declared.Refusal.the-variants.{Limits, Rule, Nodes}
+use Rattle.table.specs.declared.Refusal.the-variants as refusal
+use Rattle.ternary.specs.Text.{text, treeOf}
+use Rattle.ternary.specs.Read.{readable}
+use Rattle.ternary.specs.Write.{lacks}
+use Rattle.ternary.specs.Held.{Spent}
+use Rattle.label.specs.Label.{labelled}
+use Rattle.fields.specs.Packet.{Packet, packet}
+use Rattle.running.specs.Run.{texts, ranNumbers, ranUses}
+use Rattle.running.specs.Claims.{Fit, Unreadable, Checked, TranslateStops, TranslateHad, ReadStops, ReadsHad}
+use Rattle.running.specs.declared.Ran.{Ran}
+use Rattle.running.specs.declared.Ran.the-variants.{Refused}
+use Rattle.labelling.specs.LabelPacket.{labelPacket}
+
+-- What holds where none of the four checks refuses: those of Run pass ("checks the packet alike"), and the packet has a label, of the text v and the
+-- tree x.
+pub record LabelChecked (w s o l : List ℕ) (p : Packet) (t : Term) (v : List ℕ) (x : Tree) : Type 0 where
+  pub args : List Tree
+  pub checked : Checked w s o l p t args
+  pub has-label : p .label ≡ some v
+  pub label-is : readable v ≡ some x
+
+-- "a packet without tag 4 is 6 to it": bytes that are no packet, or one without a label
+abbrev pub Unlabelled : List ℕ → Type 0
+Unlabelled l = (packet l ≡ none) ⊎ ((p : Packet) × (packet l ≡ some p) × (p .label ≡ none))
+
+-- a packet with a label
+pub record Labelled (l : List ℕ) (p : Packet) : Type 0 where
+  pub is-packet : packet l ≡ some p
+  pub value : List ℕ
+  pub has-label : p .label ≡ some value
+
+-- What the first stage that cannot go on lacks, and the m nodes that were made since the entry: "Translate, Read of the label, Label, Write". The stages
+-- before it had what they needed.
+pub data LabelStops (w s o : List ℕ) (t : Term) (v : List ℕ) (x : Tree) : Refusal → ℕ → Type 0 where
+  in-translate : {e : Refusal} → TranslateStops w s t e → LabelStops w s o t v x e 0
+  in-read : {e : Refusal} {m : ℕ} → TranslateHad w s t → ReadStops w s (size (ruleTree t)) (v ∷ []) e m → LabelStops w s o t v x e m
+  in-label : TranslateHad w s t → ReadsHad w s (size (ruleTree t)) (v ∷ []) → capacity w - (size (ruleTree t) + length v) < 7
+      → LabelStops w s o t v x Nodes (size (ruleTree t) + length v)
+  in-write : {e : Refusal} → TranslateHad w s t → ReadsHad w s (size (ruleTree t)) (v ∷ []) → size (ruleTree t) + length v + 7 ≤ capacity w
+      → Spent (frames s) 0 (labelled (ruleTree t) x) (length o) (lacks e) → LabelStops w s o t v x e (size (ruleTree t) + length v + 7)
+
+-- What was not so where `label_packet` refuses with e, and the whole outcome q: 1, 6, 5 and 4 "leave lent memory as found". Then a stage stops with 8 to
+-- 10: the words of the m nodes made since the entry are 0 and all others as found, the stack is 0, and "the out bytes stay as at entry".
+pub data LabelRefuses (w s o l : List ℕ) (q : Outcome Ran) : Refusal → Type 0 where
+  too-long : (Fit w s o → ⊥) → q ≡ wholeOut (Refused Limits) w s o → LabelRefuses w s o l q Limits
+  no-packet : Fit w s o → Unlabelled l → q ≡ wholeOut (Refused refusal.Packet) w s o → LabelRefuses w s o l q refusal.Packet
+  no-rule : Fit w s o → {p : Packet} → Labelled l p → rule (p .rule) ≡ none → q ≡ wholeOut (Refused Rule) w s o → LabelRefuses w s o l q Rule
+  no-text : Fit w s o → {p : Packet} → Labelled l p → {t : Term} → rule (p .rule) ≡ some t → Unreadable (texts p) → q ≡ wholeOut (Refused refusal.Text) w s o
+      → LabelRefuses w s o l q refusal.Text
+  stops : {p : Packet} {t : Term} {v : List ℕ} {x : Tree} → LabelChecked w s o l p t v x → {e : Refusal} {m : ℕ} → LabelStops w s o t v x e m → m ≤ capacity w
+      → q ≡ wholeOut (Refused e) (cleared w 0 (m * 2)) (zeros s) o → LabelRefuses w s o l q e
+
+-- What is claimed of a `label_packet` that writes n digits and leaves u nodes in use.
+pub record LabelCompletes (w s o l : List ℕ) (u n : ℕ) : Type 0 where
+  -- no rule is used
+  pub numbers : ranNumbers (labelPacket w s o l .answer) ≡ record { refusal = 0; node = 0; used = u; steps = 0; digits = n }
+  pub uses-none : ranUses (labelPacket w s o l .answer) ≡ noUses
+  -- the packet, its rule's term, its label's text and tree
+  pub sent : Packet
+  pub is-packet : packet l ≡ some sent
+  pub term : Term
+  pub is-rule : rule (sent .rule) ≡ some term
+  pub value : List ℕ
+  pub has-label : sent .label ≡ some value
+  pub label : Tree
+  pub label-is : treeOf value ≡ some label
+  -- "Label, Write": the text is that of the labelled tree. "Bytes past the text stay."
+  pub digits-are : n ≡ length (text (labelled (ruleTree term) label))
+  pub written : take n (labelPacket w s o l .out) ≡ text (labelled (ruleTree term) label)
+  pub out-is : labelPacket w s o l .out ≡ text (labelled (ruleTree term) label) ++ drop n o
+  -- the nodes in use: the rule's, one a digit of the label's text, and Label's seven
+  pub used-is : u ≡ size (ruleTree term) + length value + 7
+  -- "Success also sets the stack to 0, and no other table word than those of new nodes changes."
+  pub stack : labelPacket w s o l .stack ≡ zeros s
+  pub same-length : length (labelPacket w s o l .table) ≡ length w
+  pub beyond : (i : ℕ) → 2 * u ≤ i → getD (labelPacket w s o l .table) i 0 ≡ getD w i 0
+  pub fine : Sound (record { words = labelPacket w s o l .table; used = u })
