@@ -30,6 +30,7 @@ pub fn number(refusal: Refusal) -> usize
         Refusal::Nodes => 8,
         Refusal::Frames => 9,
         Refusal::Out => 10,
+        Refusal::Label => 11,
         Refusal::RuleText => 12,
     }
 }

@@ -3,11 +3,11 @@ use Prim.Native.Nat.{ℕ}
 use mathlib.Core.Bool.{Bool, _&&_}
 use lib.Dec.{leb}
 use Rattle.table.specs.declared.Refusal.{Refusal}
-use Rattle.table.specs.declared.Refusal.the-variants.{Limits, Broken, Node, Text, Rule, Packet, Steps, Nodes, Frames, Out, RuleText}
+use Rattle.table.specs.declared.Refusal.the-variants.{Limits, Broken, Node, Text, Rule, Packet, Steps, Nodes, Frames, Out, Label, RuleText}
 use Rattle.table.specs.declared.Made.{Made}
 use Rattle.table.specs.declared.Made.the-variants
 
--- the number that document 01 (Operations, The packet) or document 02 ([3]) gives each refusal
+-- the number that document 01 (Operations, The packet) or document 02 ([1], [3]) gives each refusal
 unfoldable pub number : Refusal → ℕ
 number Limits = 1
 number Broken = 2
@@ -19,6 +19,7 @@ number Steps = 7
 number Nodes = 8
 number Frames = 9
 number Out = 10
+number Label = 11
 number RuleText = 12
 
 -- What an operation returns, as document 01 counts it: refusal 0 is success.

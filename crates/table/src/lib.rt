@@ -23,6 +23,8 @@ pub enum Refusal {
     Frames,
     // the out bytes are full, or too few
     Out,
+    // a tree is not of the labelled form
+    Label,
     // a rule text has no reading
     RuleText,
 }
