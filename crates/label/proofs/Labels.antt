@@ -1,4 +1,4 @@
--- What a Label that gave a node says, for callers. Assumes nothing.
+-- What a Label that gave a node says, and what Label is on an entered table, for callers. Assumes nothing.
 use Prim.Native.Nat.{ℕ, _+_, _-_, _≤_, _<_}
 use mathlib.Core.Path.{_≡_, refl, sym, _∙_, subst}
 use mathlib.Core.Bool.{Bool, true, false, cond, _&&_}
@@ -6,10 +6,10 @@ use mathlib.Core.List.{List, []}
 use mathlib.Core.Option.{Option, none, some}
 use native.Mathlib.Omega.{arith}
 use lib.Dec.{ltb}
-use borrow.Author.Tests.{ltb-true, ltb-false}
+use borrow.Author.Tests.{lt-ltb, ltb-true, ltb-false}
 use Rattle.calculus.specs.Tree.{Tree}
 use Rattle.table.specs.Nodes.{Table, Placed, capacity, Sound, treeAt}
-use Rattle.table.specs.Outcome.{Outcome, whole, placed, atEntry, unless}
+use Rattle.table.specs.Outcome.{Outcome, Entered, whole, placed, atEntry, unless}
 use Rattle.table.specs.declared.Refusal.{Refusal}
 use Rattle.table.specs.declared.Refusal.the-variants.{Nodes}
 use Rattle.table.specs.declared.Refusal.the-variants as refusal
@@ -19,9 +19,9 @@ use Rattle.table.specs.Claims.{Extends, Has, Places}
 use Rattle.table.proofs.Words.{and-left, and-right}
 use Rattle.table.proofs.Trees.{extends-refl, extends-trans}
 use Rattle.table.proofs.Making.{has, stays, stem-of, fork-of, make-used, make-leaf}
-use Rattle.table.proofs.Entry.{entered}
+use Rattle.table.proofs.Entry.{entered, enters}
 use Rattle.table.proofs.Laid.{refused-made}
-use Rattle.label.specs.Label.{labelled, nodes, label}
+use Rattle.label.specs.Label.{labelled, nodes, labelRule, label}
 use Rattle.label.specs.Claims.{Labels}
 
 -- z is t with k nodes more
@@ -99,7 +99,7 @@ module _ (w : List ℕ) (u f t v u′ : ℕ) where
           (omega (arith, s .within, ltb-false (capacity w - u) 7 k))
 
   pub label-gives : label w u f t .answer ≡ Node v u′ → Labels w u f t v u′
-  unfolding label Gives
+  unfolding label labelRule Gives
   label-gives = go (atEntry true w u []) refl
     where
       o : Outcome Made
@@ -111,3 +111,8 @@ module _ (w : List ℕ) (u f t v u′ : ℕ) where
           let n = entered true w u [] c in
           let g = from-checks (n .table) q in
           record { entered = c; rule-in = g .0; label-in = g .1; places = rw c (g .2); used-is = g .3 }
+
+-- on an entered table, with both nodes in use, Label is what its inner definition says
+pub entered-label : {w : List ℕ} {u f t : ℕ} → Entered true w u [] → f < u → t < u → labelRule w u f t ≡ label w u f t
+unfolding label
+entered-label {u = u} {f = f} {t = t} e h k = rw (enters e, lt-ltb f u h, lt-ltb t u k)

@@ -17,7 +17,7 @@ use Rattle.table.specs.declared.Made.the-variants.{Refused}
 use Rattle.table.proofs.Words.{and-left, and-right}
 use Rattle.table.proofs.Entry.{entry-lacks}
 use Rattle.table.proofs.Laid.{refused-made}
-use Rattle.label.specs.Label.{nodes, label}
+use Rattle.label.specs.Label.{nodes, labelRule, label}
 use Rattle.label.specs.Claims.{LabelLacks, at-entry, not-in-use, no-nodes}
 
 module _ (w : List ℕ) (u f t : ℕ) (e : Refusal) where
@@ -29,7 +29,7 @@ module _ (w : List ℕ) (u f t : ℕ) (e : Refusal) where
 
   -- "1, 2, then 3 for either number. 8: fewer than seven free nodes.": each comes only on its condition, and leaves every word as found.
   pub label-lacks : label w u f t .answer ≡ Refused e → LabelLacks w u f t e (label w u f t .table)
-  unfolding label placed
+  unfolding label labelRule placed
   label-lacks = go (atEntry true w u []) refl
     where
       after : Outcome Made

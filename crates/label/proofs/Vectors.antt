@@ -13,5 +13,5 @@ use Rattle.label.specs.Label.{label}
 -- node 0, and the words beyond the new nodes are as found
 pub order : label (0 ∷ 0 ∷ 1 ∷ 0 ∷ replicate 16 9) 2 1 0
     ≡ whole (Node 8 9) (0 ∷ 0 ∷ 1 ∷ 0 ∷ 0 ∷ 0 ∷ 3 ∷ 0 ∷ 3 ∷ 4 ∷ 2 ∷ 0 ∷ 6 ∷ 5 ∷ 1 ∷ 0 ∷ 8 ∷ 7 ∷ 9 ∷ 9 ∷ []) []
-unfolding table.broken table.sound table.make outcome.fits outcome.atEntry outcome.placed labelling.nodes labelling.label
+unfolding table.broken table.sound table.make outcome.fits outcome.atEntry outcome.placed labelling.nodes labelling.labelRule labelling.label
 order = refl

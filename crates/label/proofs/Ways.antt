@@ -12,7 +12,7 @@ use Rattle.table.specs.declared.Refusal.{Refusal}
 use Rattle.table.specs.declared.Refusal.the-variants.{Nodes}
 use Rattle.table.specs.declared.Refusal.the-variants as refusal
 use Rattle.table.specs.declared.Made.the-variants.{Node, Refused}
-use Rattle.label.specs.Label.{nodes, label}
+use Rattle.label.specs.Label.{nodes, labelRule, label}
 use Rattle.label.specs.Code.{constantNodes, labelNodes}
 
 -- nodes made one after another
@@ -36,24 +36,23 @@ pub constant-numbers : (t : Table) {m : Placed} → m ≡ constantNodes t → (m
 unfolding constantNodes make
 constant-numbers t e = (ap (λ (z : Placed). z .node) e ∙ omega arith, ap (λ (z : Placed). z .table .used) e ∙ omega arith)
 
--- the checks
+-- the free nodes, where both nodes are in use
 module _ (w : List ℕ) (u f t : ℕ) where
-  module _ (q : none ≡ atEntry true w u []) where
-    pub no-rule : u ≤ f → whole (Refused refusal.Node) w [] ≡ label w u f t
-    unfolding label
-    no-rule h = rw (← q, le-ltb f u h)
+  pub no-nodes : capacity w - u < 7 → whole (Refused Nodes) w [] ≡ labelRule w u f t
+  unfolding labelRule
+  no-nodes l = rw (lt-ltb (capacity w - u) 7 l)
 
-    module _ (h : f < u) where
-      pub no-label : u ≤ t → whole (Refused refusal.Node) w [] ≡ label w u f t
-      unfolding label
-      no-label k = rw (← q, lt-ltb f u h, le-ltb t u k)
+  pub is-labelled : 7 ≤ capacity w - u → {m : Placed} → m ≡ nodes (record { words = w; used = u }) f t
+      → whole (Node (m .node) (m .table .used)) (m .table .words) [] ≡ labelRule w u f t
+  unfolding labelRule placed
+  is-labelled l e = rw (le-ltb (capacity w - u) 7 l, e)
 
-      module _ (k : t < u) where
-        pub no-nodes : capacity w - u < 7 → whole (Refused Nodes) w [] ≡ label w u f t
-        unfolding label
-        no-nodes l = rw (← q, lt-ltb f u h, lt-ltb t u k, lt-ltb (capacity w - u) 7 l)
+-- the checks of both numbers, where neither 1 nor 2 is met
+module _ (w : List ℕ) (u f t : ℕ) (q : none ≡ atEntry true w u []) where
+  pub no-rule : u ≤ f → whole (Refused refusal.Node) w [] ≡ label w u f t
+  unfolding label
+  no-rule h = rw (← q, le-ltb f u h)
 
-        pub is-labelled : 7 ≤ capacity w - u → {m : Placed} → m ≡ nodes (record { words = w; used = u }) f t
-            → whole (Node (m .node) (m .table .used)) (m .table .words) [] ≡ label w u f t
-        unfolding label placed
-        is-labelled l e = rw (← q, lt-ltb f u h, lt-ltb t u k, le-ltb (capacity w - u) 7 l, e)
+  pub no-label : f < u → u ≤ t → whole (Refused refusal.Node) w [] ≡ label w u f t
+  unfolding label
+  no-label h k = rw (← q, lt-ltb f u h, le-ltb t u k)

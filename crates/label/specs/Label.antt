@@ -26,11 +26,13 @@ nodes table f t =
     let n6 = make (n5 .table) (t + 1) 0 in
     make (n6 .table) (n6 .node + 1) (n5 .node + 1)
 
+-- Label on a table that passed 1 and 2, with both nodes in use: "8: fewer than seven free nodes." 8 is met before a node is made, so no word changes.
+unfoldable pub labelRule : List ℕ → ℕ → ℕ → ℕ → Outcome Made
+labelRule w u f t = cond (ltb (capacity w - u) 7) (whole (Refused Nodes) w []) (placed (nodes (record { words = w; used = u }) f t) [])
+
 -- Label the rule at node f with the tree of node t, in the table w with u nodes in use: "1, 2, then 3 for either number. 8: fewer than seven free
--- nodes." 8 is met before a node is made, so no word changes. "Label has no stack."
+-- nodes." "Label has no stack."
 unfoldable pub label : List ℕ → ℕ → ℕ → ℕ → Outcome Made
 label w u f t =
     unless (atEntry true w u []) (λ e. whole (Refused e) w [])
-    (cond (ltb f u && ltb t u)
-    (cond (ltb (capacity w - u) 7) (whole (Refused Nodes) w []) (placed (nodes (record { words = w; used = u }) f t) []))
-    (whole (Refused refusal.Node) w []))
+    (cond (ltb f u && ltb t u) (labelRule w u f t) (whole (Refused refusal.Node) w []))

@@ -34,6 +34,22 @@ fn make_label(table: &mut [u32], used: usize, k: usize, rule: usize, label: usiz
     nodes::new_node(table, n6.used, n6.node + 1, n5.node + 1)
 }
 
+// Labels a rule's node with the tree of another, both in use, in a table that passed 1 and 2: 8, or the labelled tree.
+pub fn label_rule(table: &mut [u32], used: usize, rule: usize, label: usize) -> Made
+    requires { ⌜ (length (now table) ≤ 131072) × (used ≤ capacity (now table)) × (rule < used) × (label < used) ⌝ }
+    ensures { λ r. ⌜ whole r (now (table .exit)) [] ≡ labelling.labelRule (now (table .entry)) used rule label ⌝ }
+{
+    if table.len() / 2 - used < 7 {
+        return Made::Refused(Refusal::Nodes);
+    }
+    let third = make_constant(table, used);
+    let last = make_label(table, third.used, third.node, rule, label);
+    Made::Node {
+        node: last.node,
+        used: last.used,
+    }
+}
+
 // Labels the rule at a node with the tree of another node.
 pub fn label(table: &mut [u32], used: usize, rule: usize, label: usize) -> Made
     ensures { λ r. ⌜ whole r (now (table .exit)) [] ≡ labelling.label (now (table .entry)) used rule label ⌝ }
@@ -49,13 +65,5 @@ pub fn label(table: &mut [u32], used: usize, rule: usize, label: usize) -> Made
     if used <= label {
         return Made::Refused(Refusal::Node);
     }
-    if table.len() / 2 - used < 7 {
-        return Made::Refused(Refusal::Nodes);
-    }
-    let third = make_constant(table, used);
-    let last = make_label(table, third.used, third.node, rule, label);
-    Made::Node {
-        node: last.node,
-        used: last.used,
-    }
+    label_rule(table, used, rule, label)
 }
