@@ -20,9 +20,7 @@ use Rattle.table.specs.declared.Made.{Made}
 use Rattle.table.specs.declared.Made.the-variants as made
 use Rattle.table.proofs.Words.{zero-one}
 use Rattle.ternary.specs.Read.{read, readable, readTree}
-use Rattle.ternary.proofs.Reading.{entered-read, read-gives}
-use Rattle.translation.specs.Translate.{translateRule, translate}
-use Rattle.translation.proofs.Translates.{entered-translate, translate-gives}
+use Rattle.translation.specs.Translate.{translateRule}
 use Rattle.applying.specs.Apply.{applyNodes, apply}
 use Rattle.applying.specs.declared.Applied.{Applied}
 use Rattle.applying.specs.declared.Applied.the-variants as applied
@@ -34,7 +32,7 @@ use Rattle.packet.proofs.Parts.{next-field}
 use Rattle.running.specs.Run.{stopped, afterMade, afterApplied, writes, applies, reads, stages}
 use Rattle.running.specs.declared.Ran.{Ran}
 use Rattle.endings.specs.Ready.{Ready}
-use Rattle.endings.proofs.Ways.{entered-by}
+use Rattle.endings.proofs.Ways.{entered-by, is-translate, is-read, read-ready}
 use Rattle.stages.specs.NodesIn.{NodesIn}
 
 -- an answer that is none
@@ -174,35 +172,33 @@ module _ {l : List ℕ} {count : ℕ} {o : List ℕ} {next : List ℕ → List �
   reads-all m n b = p .nodes-in n (omega arith)
 
   module _ (h : i < count) {a : Made} {z y : List ℕ} (e : whole a z y ≡ readTree w u s (valueAt l at) (readable (valueAt l at))) where
-    is-read : whole a z y ≡ read w u s (valueAt l at)
-    is-read = e ∙ entered-read w u s (valueAt l at) (entered-by (p .ready) refl)
+    as-read : whole a z y ≡ read w u s (valueAt l at)
+    as-read = is-read (p .ready) (valueAt l at) e
 
     pub reads-stop : {x : Outcome Ran} {c : Refusal} → a ≡ made.Refused c → x ≡ stopped c z u y o → x ≡ reads (valuesAt l from count) w₀ u₀ s₀ o next
     unfolding reads afterMade
     reads-stop {x} {c} q g =
-        let b : x ≡ reads (valuesAt l at (count - i)) w u s o (λ ns. next (take i nodes ++ ns)) = rw (next-field l at count i h (p .stand) .values, ← is-read, q) g in
+        let b : x ≡ reads (valuesAt l at (count - i)) w u s o (λ ns. next (take i nodes ++ ns)) = rw (next-field l at count i h (p .stand) .values, ← as-read, q) g in
         b ∙ p .rest
 
     pub reads-next : {n u′ : ℕ} → a ≡ made.Node n u′ → length y ≡ length s → Reading l count o next v w₀ u₀ s₀ from z y (set nodes i n) (endAt l at) u′ (i + 1)
     unfolding reads afterMade
     reads-next {n} {u′} q k =
-        let g = read-gives w u s (valueAt l at) n u′ (rw (← is-read) q) in
-        let t : read w u s (valueAt l at) .table ≡ z = rw (← is-read) in
-        let up : u ≤ u′ = g .places .extends .kept .up in
+        let g = read-ready (p .ready) (valueAt l at) e q k in
         let m : i < length nodes = omega (arith, p .eight, p .few) in
         let c : take (i + 1) (set nodes i n) ≡ take i nodes ++ (n ∷ []) = rw (add-one i, take-suc-set nodes i n m) in
         let b : reads (valuesAt l (endAt l at) (count - (i + 1))) z u′ y o (λ ns. next (take (i + 1) (set nodes i n) ++ ns))
         ≡ reads (valuesAt l at (count - i)) w u s o (λ ns. next (take i nodes ++ ns)) =
-        rw (next-field l at count i h (p .stand) .values, ← is-read, q, c) (simp append-assoc) in
+        rw (next-field l at count i h (p .stand) .values, ← as-read, q, c) (simp append-assoc) in
         record {
-          ready = record { fine = rw t at (g .places .fine); stack = omega (arith, p .ready .stack); out = p .ready .out };
+          ready = g .ready;
           inside = omega arith;
           stand = next-field l at count i h (p .stand) .stand;
-          rule-in = omega (arith, p .rule-in);
+          rule-in = omega (arith, p .rule-in, g .up);
           eight = rw length-set (p .eight);
           few = p .few;
-          nodes-in = λ j d. go j d (ltb j i) refl up (g .places .inside) m;
-          same-table = ap length (sym t) ∙ g .places .extends .kept .same-length ∙ p .same-table;
+          nodes-in = λ j d. go j d (ltb j i) refl (g .up) (g .inside) m;
+          same-table = g .same-length ∙ p .same-table;
           same-stack = k ∙ p .same-stack;
           rest = b ∙ p .rest;
         }
@@ -219,20 +215,11 @@ module _ {l : List ℕ} {count : ℕ} {o : List ℕ} {next : List ℕ → List �
 -- ---- Translate, and the stages
 
 module _ {w s o : List ℕ} (r : Ready w 0 s o) (p : Packet) {a : Made} {z y : List ℕ} (e : whole a z y ≡ translateRule w 0 s (rule (p .rule))) where
-  is-translate : whole a z y ≡ translate w 0 s (p .rule)
-  is-translate = e ∙ entered-translate w 0 s (p .rule) (entered-by r refl)
-
   pub stages-next : {n u′ : ℕ} → a ≡ made.Node n u′ → {x : Outcome Ran}
       → x ≡ reads (p .arguments) z u′ y o (λ ns w″ u″ s″. applies ns (p .limit) w″ u″ s″ o n noUses) → x ≡ stages w s o p
   unfolding stages afterMade
-  stages-next q g = rw (← is-translate, q) g
+  stages-next q g = rw (← is-translate r (p .rule) e, q) g
 
   pub stages-stop : {x : Outcome Ran} {c : Refusal} → a ≡ made.Refused c → x ≡ stopped c z 0 y o → x ≡ stages w s o p
   unfolding stages afterMade
-  stages-stop q g = rw (← is-translate, q) g
-
-  pub stages-ready : {n u′ : ℕ} → a ≡ made.Node n u′ → length y ≡ length s → Ready z u′ y o × (n < u′)
-  stages-ready {n} {u′} q l =
-      let g = translate-gives w 0 s (p .rule) n u′ (rw (← is-translate) q) in
-      let t : translate w 0 s (p .rule) .table ≡ z = rw (← is-translate) in
-      (record { fine = rw t at (g .lays .places .fine); stack = omega (arith, r .stack); out = r .out }, g .lays .places .inside)
+  stages-stop q g = rw (← is-translate r (p .rule) e, q) g

@@ -1,10 +1,10 @@
 -- `stages::run_stages` meets its contract. Assumes nothing.
 use mathlib.Core.Path.{_≡_, refl, sym, ap, _∙_}
 use native.Mathlib.Omega.{arith}
-use Rattle.packet.specs.Code.{packetAt}
+use Rattle.packet.specs.Code.{valueAt, packetAt}
 use Rattle.packet.proofs.Parts.{part-value}
-use Rattle.endings.proofs.Ways.{made-not}
-use Rattle.stages.proofs.Ways.{stages-next, stages-stop, stages-ready}
+use Rattle.endings.proofs.Ways.{made-not, translate-ready}
+use Rattle.stages.proofs.Ways.{stages-next, stages-stop}
 use borrow.Author.Needs.{needs}
 use Rattle.stages.proofs.run_stages.Statement.{statement}
 use Rattle.stages.proofs.run_stages.Tie as tie
@@ -47,7 +47,7 @@ returns c = stages-stop (c .before .before .before .before .before .before .befo
 
 read-all-requires : tie.Need-read-all-requires
 read-all-requires c κs =
-    let r = stages-ready (c .before .before .before .before .before .before .before .before .before .before .before .before .before .before .before .before .before .before .before .pre .0) (packetAt (c .before .before .before .before .before .before .before .before .before .before .before .before .before .before .before .before .before .before .before .args .packet .now) (c .before .before .before .before .before .before .before .before .before .before .before .before .before .before .before .before .before .before .before .args .count) (c .before .before .before .before .before .before .before .before .before .before .before .before .before .before .before .before .before .before .before .args .limit) 0) (rw (c .before .before .before .before .before .before .before .before .before .before .before .before .before .before .part-at .ensures, part-value (c .before .before .before .before .before .before .before .before .before .before .before .before .before .before .before .before .before .before .before .args .packet .now) 0) at (c .before .before .before .before .before .before .before .before .before .before .translate-rule .ensures)) (c .before .before .before .before .made .given .1) (c .before .before .before .before .before .before .before .before .before .before .translate-rule .kept .1 .1 .0) in
+    let r = translate-ready (c .before .before .before .before .before .before .before .before .before .before .before .before .before .before .before .before .before .before .before .pre .0) (valueAt (c .before .before .before .before .before .before .before .before .before .before .before .before .before .before .before .before .before .before .before .args .packet .now) 0) (rw (c .before .before .before .before .before .before .before .before .before .before .before .before .before .before .part-at .ensures, part-value (c .before .before .before .before .before .before .before .before .before .before .before .before .before .before .before .before .before .before .before .args .packet .now) 0) at (c .before .before .before .before .before .before .before .before .before .before .translate-rule .ensures)) (c .before .before .before .before .made .given .1) (c .before .before .before .before .before .before .before .before .before .before .translate-rule .kept .1 .1 .0) in
     (r .0, r .1, c .before .before .before .before .before .before .before .before .before .before .before .before .before .before .before .before .before .before .before .pre .1, c .before .before .before .before .before .before .before .before .before .before .before .before .before .before .before .before .before .before .before .pre .2, rw (c .before .before .before .before .before .before .before .before .before .before .before .before .before .before .part-at .ensures) (c .before .before .before .before .before .before .before .before .before .before .before .before .before .before .before .before .before .before .before .pre .4))
 
 same-length-3 : tie.Need-same-length-3
