@@ -12,6 +12,7 @@ ghost use Rattle.ternary.specs.Write as writing;
 ghost use Rattle.translation.specs.Translate as translating;
 ghost use Rattle.applying.specs.Apply as applying;
 ghost use Rattle.label.specs.Label as labelling;
+ghost use Rattle.unlabel.specs.Unlabel as unlabelling;
 ghost use Rattle.running.specs.Run as running;
 ghost use Rattle.grammar.specs.Outcome as grammar;
 ghost use Rattle.ffi.specs.Boundary.{listed, listedUses, numbered, answered, counted};
@@ -22,6 +23,7 @@ use running::Ran;
 use table::Made;
 use table::Refusal;
 use ternary::Written;
+use unlabel::Unlabelled;
 
 // The numbers of a refusal, with `used` as at entry.
 fn refused(used: usize, refusal: Refusal) -> [usize; 5]
@@ -224,4 +226,24 @@ pub extern "C" fn lazvorn_rule_text(text: &[u8], out: &mut [u8], answer: &mut [u
 {
     let read = rule_reader::rule_text(text, out);
     *answer = encoded(read);
+}
+
+// The numbers of the answer to a labelled tree.
+fn unlabelled(used: usize, answer: Unlabelled) -> [usize; 6]
+    ensures { λ r. ⌜ r ≡ unlabelling.unlabelledNumbers used answer ⌝ }
+{
+    match answer {
+        Unlabelled::Parts { rule, label } => [0, rule, used, 0, 0, label],
+        Unlabelled::Refused(refusal) => [checks::number(refusal), 0, used, 0, 0, 0],
+    }
+}
+
+// Gives the nodes of rule and label out of the labelled tree of a node; the table is only read. The answer is six numbers: refusal, the rule's node,
+// used, 0, 0, and the label's node.
+#[no_mangle]
+pub extern "C" fn lazvorn_unlabel(table: &[u32], used: usize, node: usize, answer: &mut [usize; 6])
+    ensures { λ _. ⌜ now (answer .exit) ≡ unlabelling.unlabelledNumbers used (unlabelling.unlabel (now (table .entry)) used node) ⌝ }
+{
+    let parts = unlabel::unlabel(table, used, node);
+    *answer = unlabelled(used, parts);
 }
