@@ -1,113 +1,21 @@
 // The operations for C and Rust, each under a plain name and on plain numbers and slices; include/lazvorn.h declares them. A slice is two C
 // arguments, a pointer and a length. An answer is an array that the caller lends: five numbers, refusal, node, used, steps and digits; of Apply and Run
-// these and the uses of leaf, stem, drop, spread and triage; or what the operation says.
+// these and the uses of leaf, stem, drop, spread and triage; or what the operation says. The crates `answers` and `counted` make its numbers.
 // The definitions are in specs/.
 ghost use mathlib.Core.Path.{_≡_};
 ghost use mathlib.Core.List.{[]};
-ghost use Rattle.calculus.specs.Uses.{noUses};
-ghost use Rattle.table.specs.Refusal.{refusedNumbers, madeNumbers};
+ghost use Rattle.table.specs.Refusal.{madeNumbers};
 ghost use Rattle.table.specs.Outcome.{whole, wholeOut};
 ghost use Rattle.ternary.specs.Read as reading;
 ghost use Rattle.ternary.specs.Write as writing;
 ghost use Rattle.translation.specs.Translate as translating;
 ghost use Rattle.applying.specs.Apply as applying;
 ghost use Rattle.label.specs.Label as labelling;
+ghost use Rattle.labelling.specs.LabelPacket.{labelPacket};
 ghost use Rattle.unlabel.specs.Unlabel as unlabelling;
 ghost use Rattle.running.specs.Run as running;
 ghost use Rattle.grammar.specs.Outcome as grammar;
-ghost use Rattle.ffi.specs.Boundary.{listed, listedUses, numbered, answered, counted};
-use applying::Applied;
-use calculus::Uses;
-use grammar::Encoded;
-use running::Ran;
-use table::Made;
-use table::Refusal;
-use ternary::Written;
-use unlabel::Unlabelled;
-
-// The numbers of a refusal, with `used` as at entry.
-fn refused(used: usize, refusal: Refusal) -> [usize; 5]
-    ensures { λ r. ⌜ r ≡ listed (refusedNumbers used refusal) ⌝ }
-{
-    let n = checks::number(refusal);
-    [n, 0, used, 0, 0]
-}
-
-// The same for Apply and Run: no uses are told.
-fn refused_uses(used: usize, refusal: Refusal) -> [usize; 10]
-    ensures { λ r. ⌜ r ≡ listedUses (refusedNumbers used refusal) noUses ⌝ }
-{
-    let n = checks::number(refusal);
-    [n, 0, used, 0, 0, 0, 0, 0, 0, 0]
-}
-
-// The numbers of the answer of Read, Translate and Label.
-fn made(used: usize, answer: Made) -> [usize; 5]
-    ensures { λ r. ⌜ r ≡ listed (madeNumbers used answer) ⌝ }
-{
-    match answer {
-        Made::Node { node, used: grown } => [0, node, grown, 0, 0],
-        Made::Refused(refusal) => refused(used, refusal),
-    }
-}
-
-// The numbers of Write's answer.
-fn written(used: usize, answer: Written) -> [usize; 5]
-    ensures { λ r. ⌜ r ≡ listed (writing.writtenNumbers used answer) ⌝ }
-{
-    match answer {
-        Written::Digits(digits) => [0, 0, used, 0, digits],
-        Written::Refused(refusal) => refused(used, refusal),
-    }
-}
-
-// The ten numbers of an answer of Apply or Run that is no refusal.
-fn completed(node: usize, used: usize, steps: usize, digits: usize, uses: Uses) -> [usize; 10]
-    ensures { λ r. ⌜ r ≡ listedUses (record { refusal = 0; node = node; used = used; steps = steps; digits = digits }) uses ⌝ }
-{
-    [
-        0,
-        node,
-        used,
-        steps,
-        digits,
-        uses.leaf,
-        uses.stem,
-        uses.drop,
-        uses.spread,
-        uses.triage,
-    ]
-}
-
-// The numbers of Apply's answer.
-fn applied(used: usize, answer: Applied) -> [usize; 10]
-    ensures { λ r. ⌜ r ≡ listedUses (applying.appliedNumbers used answer) (applying.appliedUses answer) ⌝ }
-{
-    match answer {
-        Applied::Node {
-            node,
-            used: grown,
-            steps,
-            uses,
-        } => completed(node, grown, steps, 0, uses),
-        Applied::Refused(refusal) => refused_uses(used, refusal),
-    }
-}
-
-// The numbers of Run's answer.
-fn ran(answer: Ran) -> [usize; 10]
-    ensures { λ r. ⌜ r ≡ listedUses (running.ranNumbers answer) (running.ranUses answer) ⌝ }
-{
-    match answer {
-        Ran::Text {
-            steps,
-            used,
-            digits,
-            uses,
-        } => completed(0, used, steps, digits, uses),
-        Ran::Refused(refusal) => refused_uses(0, refusal),
-    }
-}
+ghost use Rattle.ffi.specs.Boundary.{numbered, answered, counted};
 
 // Reads a text into the table.
 #[no_mangle]
@@ -122,7 +30,7 @@ pub extern "C" fn lazvorn_read(
         ≡ numbered (madeNumbers used) (reading.read (now (table .entry)) used (now (stack .entry)) (now (text .entry))) ⌝ }
 {
     let read = reader::read(table, used, stack, text);
-    *answer = made(used, read);
+    *answer = answers::made(used, read);
 }
 
 // Writes a node's tree as text.
@@ -139,7 +47,7 @@ pub extern "C" fn lazvorn_write(
         ≡ numbered (writing.writtenNumbers used) (writing.write (now (table .entry)) used (now (stack .entry)) node (now (out .entry))) ⌝ }
 {
     let wrote = writer::write(table, used, stack, node, out);
-    *answer = written(used, wrote);
+    *answer = answers::written(used, wrote);
 }
 
 // Translates a rule into the table.
@@ -155,7 +63,7 @@ pub extern "C" fn lazvorn_translate(
         ≡ numbered (madeNumbers used) (translating.translate (now (table .entry)) used (now (stack .entry)) (now (bytes .entry))) ⌝ }
 {
     let translated = term::translate(table, used, stack, bytes);
-    *answer = made(used, translated);
+    *answer = answers::made(used, translated);
 }
 
 // Applies one node to another in at most `limit` steps. The answer is ten numbers.
@@ -173,7 +81,7 @@ pub extern "C" fn lazvorn_apply(
         ≡ counted (applying.appliedNumbers used) applying.appliedUses (applying.apply (now (table .entry)) used (now (stack .entry)) function argument limit) ⌝ }
 {
     let outcome = machine::apply(table, used, stack, function, argument, limit);
-    *answer = applied(used, outcome);
+    *answer = counted::applied(used, outcome);
 }
 
 // Labels the rule at one node with the tree of another.
@@ -189,7 +97,7 @@ pub extern "C" fn lazvorn_label(
         ≡ numbered (madeNumbers used) (labelling.label (now (table .entry)) used rule label) ⌝ }
 {
     let labelled = label::label(table, used, rule, label);
-    *answer = made(used, labelled);
+    *answer = answers::made(used, labelled);
 }
 
 // Runs a packet with the table taken as empty. The answer is ten numbers.
@@ -205,17 +113,23 @@ pub extern "C" fn lazvorn_run(
         ≡ counted running.ranNumbers running.ranUses (running.run (now (table .entry)) (now (stack .entry)) (now (out .entry)) (now (packet .entry))) ⌝ }
 {
     let result = run::run(table, stack, out, packet);
-    *answer = ran(result);
+    *answer = counted::ran(result);
 }
 
-// The numbers of the answer to a rule text.
-fn encoded(answer: Encoded) -> [usize; 2]
-    ensures { λ r. ⌜ r ≡ grammar.encodedNumbers answer ⌝ }
+// Writes the labelled rule of a packet, with the table taken as empty. The answer is five numbers; node and steps are 0.
+#[no_mangle]
+pub extern "C" fn lazvorn_label_packet(
+    table: &mut [u32],
+    stack: &mut [u32],
+    out: &mut [u8],
+    packet: &[u8],
+    answer: &mut [usize; 5],
+)
+    ensures { λ _. ⌜ wholeOut (now (answer .exit)) (now (table .exit)) (now (stack .exit)) (now (out .exit))
+        ≡ numbered running.ranNumbers (labelPacket (now (table .entry)) (now (stack .entry)) (now (out .entry)) (now (packet .entry))) ⌝ }
 {
-    match answer {
-        Encoded::Bytes(n) => [0, n],
-        Encoded::Refused(refusal) => [checks::number(refusal), 0],
-    }
+    let result = labeller::label_packet(table, stack, out, packet);
+    *answer = answers::labelled(result);
 }
 
 // Reads a rule text and writes the bytes of its term. The answer is two numbers: refusal, and bytes written.
@@ -225,17 +139,7 @@ pub extern "C" fn lazvorn_rule_text(text: &[u8], out: &mut [u8], answer: &mut [u
         ≡ answered grammar.encodedNumbers (grammar.ruleText (now (text .entry)) (now (out .entry))) ⌝ }
 {
     let read = rule_reader::rule_text(text, out);
-    *answer = encoded(read);
-}
-
-// The numbers of the answer to a labelled tree.
-fn unlabelled(used: usize, answer: Unlabelled) -> [usize; 6]
-    ensures { λ r. ⌜ r ≡ unlabelling.unlabelledNumbers used answer ⌝ }
-{
-    match answer {
-        Unlabelled::Parts { rule, label } => [0, rule, used, 0, 0, label],
-        Unlabelled::Refused(refusal) => [checks::number(refusal), 0, used, 0, 0, 0],
-    }
+    *answer = answers::encoded(read);
 }
 
 // Gives the nodes of rule and label out of the labelled tree of a node; the table is only read. The answer is six numbers: refusal, the rule's node,
@@ -245,5 +149,5 @@ pub extern "C" fn lazvorn_unlabel(table: &[u32], used: usize, node: usize, answe
     ensures { λ _. ⌜ now (answer .exit) ≡ unlabelling.unlabelledNumbers used (unlabelling.unlabel (now (table .entry)) used node) ⌝ }
 {
     let parts = unlabel::unlabel(table, used, node);
-    *answer = unlabelled(used, parts);
+    *answer = answers::unlabelled(used, parts);
 }

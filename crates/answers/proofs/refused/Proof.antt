@@ -1,8 +1,8 @@
--- `ffi::refused` meets its contract: the refusal's number, and zeros but for `used`. Assumes nothing.
+-- `answers::refused` meets its contract: the refusal's number, and zeros but for `used`. Assumes nothing.
 use Rattle.table.specs.Refusal.{refusedNumbers}
 use borrow.Author.Needs.{needs}
-use Rattle.ffi.proofs.refused.Statement.{statement}
-use Rattle.ffi.proofs.refused.Tie as tie
+use Rattle.answers.proofs.refused.Statement.{statement}
+use Rattle.answers.proofs.refused.Tie as tie
 
 number-requires : tie.Need-number-requires
 number-requires c κs = search needs

@@ -1,8 +1,8 @@
--- `ffi::refused_uses` meets its contract: the refusal's number, and zeros but for `used`. Assumes nothing.
+-- `counted::refused_uses` meets its contract: the refusal's number, and zeros but for `used`. Assumes nothing.
 use Rattle.table.specs.Refusal.{refusedNumbers}
 use borrow.Author.Needs.{needs}
-use Rattle.ffi.proofs.refused_uses.Statement.{statement}
-use Rattle.ffi.proofs.refused_uses.Tie as tie
+use Rattle.counted.proofs.refused_uses.Statement.{statement}
+use Rattle.counted.proofs.refused_uses.Tie as tie
 
 number-requires : tie.Need-number-requires
 number-requires c κs = search needs

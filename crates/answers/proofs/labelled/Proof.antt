@@ -1,8 +1,8 @@
--- `ffi::made` meets its contract: each case of the answer. Assumes nothing.
-use Rattle.table.specs.Refusal.{madeNumbers}
+-- `answers::labelled` meets its contract: each case of the answer. Assumes nothing.
+use Rattle.running.specs.Run.{ranNumbers}
 use borrow.Author.Needs.{needs}
-use Rattle.ffi.proofs.made.Statement.{statement}
-use Rattle.ffi.proofs.made.Tie as tie
+use Rattle.answers.proofs.labelled.Statement.{statement}
+use Rattle.answers.proofs.labelled.Tie as tie
 
 enum-known-answer : tie.Need-enum-known-answer
 enum-known-answer c = search needs
@@ -14,13 +14,13 @@ refused-requires : tie.Need-refused-requires
 refused-requires c κs = search needs
 
 returns : tie.Need-returns
-unfolding madeNumbers
+unfolding ranNumbers
 returns c = rw (c .before .answer .given .1)
 
 returns-2 : tie.Need-returns-2
-unfolding madeNumbers
+unfolding ranNumbers
 returns-2 c = rw (c .before .before .answer2 .given .1) (c .refused .ensures)
 
-pub made-spec : {M : Type 1} → statement M
-made-spec =
+pub labelled-spec : {M : Type 1} → statement M
+labelled-spec =
     tie.close (tie.spec enum-known-answer enum-known-answer-2 refused-requires returns returns-2)

@@ -1,8 +1,8 @@
--- `ffi::written` meets its contract: each case of the answer. Assumes nothing.
+-- `answers::written` meets its contract: each case of the answer. Assumes nothing.
 use Rattle.ternary.specs.Write.{writtenNumbers}
 use borrow.Author.Needs.{needs}
-use Rattle.ffi.proofs.written.Statement.{statement}
-use Rattle.ffi.proofs.written.Tie as tie
+use Rattle.answers.proofs.written.Statement.{statement}
+use Rattle.answers.proofs.written.Tie as tie
 
 enum-known-answer : tie.Need-enum-known-answer
 enum-known-answer c = search needs

@@ -1,8 +1,8 @@
--- `ffi::applied` meets its contract: each case of the answer. Assumes nothing.
-use Rattle.applying.specs.Apply.{appliedNumbers, appliedUses}
+-- `counted::ran` meets its contract: each case of the answer. Assumes nothing.
+use Rattle.running.specs.Run.{ranNumbers, ranUses}
 use borrow.Author.Needs.{needs}
-use Rattle.ffi.proofs.applied.Statement.{statement}
-use Rattle.ffi.proofs.applied.Tie as tie
+use Rattle.counted.proofs.ran.Statement.{statement}
+use Rattle.counted.proofs.ran.Tie as tie
 
 enum-known-answer : tie.Need-enum-known-answer
 enum-known-answer c = search needs
@@ -17,13 +17,13 @@ refused-uses-requires : tie.Need-refused-uses-requires
 refused-uses-requires c κs = search needs
 
 returns : tie.Need-returns
-unfolding appliedNumbers appliedUses
+unfolding ranNumbers ranUses
 returns c = rw (c .before .before .answer .given .1) (c .completed .ensures)
 
 returns-2 : tie.Need-returns-2
-unfolding appliedNumbers appliedUses
+unfolding ranNumbers ranUses
 returns-2 c = rw (c .before .before .answer2 .given .1) (c .refused-uses .ensures)
 
-pub applied-spec : {M : Type 1} → statement M
-applied-spec =
+pub ran-spec : {M : Type 1} → statement M
+ran-spec =
     tie.close (tie.spec enum-known-answer completed-requires enum-known-answer-2 refused-uses-requires returns returns-2)

@@ -1,8 +1,8 @@
--- `ffi::encoded` meets its contract: each case of the answer. Assumes nothing.
+-- `answers::encoded` meets its contract: each case of the answer. Assumes nothing.
 use Rattle.grammar.specs.Outcome.{encodedNumbers}
 use borrow.Author.Needs.{needs}
-use Rattle.ffi.proofs.encoded.Statement.{statement}
-use Rattle.ffi.proofs.encoded.Tie as tie
+use Rattle.answers.proofs.encoded.Statement.{statement}
+use Rattle.answers.proofs.encoded.Tie as tie
 
 enum-known-answer : tie.Need-enum-known-answer
 enum-known-answer c = search needs

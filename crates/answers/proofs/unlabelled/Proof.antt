@@ -1,8 +1,8 @@
--- `ffi::unlabelled` meets its contract: each case of the answer. Assumes nothing.
+-- `answers::unlabelled` meets its contract: each case of the answer. Assumes nothing.
 use Rattle.unlabel.specs.Unlabel.{unlabelledNumbers}
 use borrow.Author.Needs.{needs}
-use Rattle.ffi.proofs.unlabelled.Statement.{statement}
-use Rattle.ffi.proofs.unlabelled.Tie as tie
+use Rattle.answers.proofs.unlabelled.Statement.{statement}
+use Rattle.answers.proofs.unlabelled.Tie as tie
 
 enum-known-answer : tie.Need-enum-known-answer
 enum-known-answer c = search needs
