@@ -7,18 +7,25 @@
  * length is 0 the pointer may be any that is not NULL.
  *
  * What a caller owes is what C itself asks: a pointer reaches as many elements as its length says,
- * and what the call writes (the table but for lazvorn_write, the stack, out, answer) overlaps
- * nothing else that is lent to it. There is no other condition: counts, node numbers and contents
- * that do not fit are refused by number.
+ * and what the call writes (the table but for lazvorn_write and lazvorn_unlabel, the stack, out,
+ * answer) overlaps nothing else that is lent to it. There is no other condition: counts, node
+ * numbers and contents that do not fit are refused by number.
  *
  * Each call writes its numbers to answer, and the caller lends room for as many:
  *   lazvorn_apply and lazvorn_run write ten: refusal, node, used, steps, digits, and the uses of
  *     leaf, stem, drop, spread and triage, whose sum is the steps;
+ *   lazvorn_unlabel writes six: the first five of these, and the label's node;
  *   lazvorn_rule_text writes two: refusal, and bytes written;
  *   every other call writes the first five of the ten.
- * A refusal gives its number, used as at entry (0 for lazvorn_run), and 0 for the others. Refusals
- * 1 to 6 and 12 leave all lent memory as found. Refusals 7 to 10 set the stack and the words of the
- * nodes made in the call to 0 and leave out as found. Success sets the stack to 0.
+ * A refusal gives its number, used as at entry (0 for lazvorn_run and lazvorn_label_packet), and 0
+ * for the others. Refusals 1 to 6, 11 and 12 leave all lent memory as found. Refusals 7 to 10 set
+ * the stack and the words of the nodes made in the call to 0 and leave out as found. Success sets
+ * the stack to 0.
+ *
+ * A packet is a run of fields: a one-byte tag, a two-byte length (high byte first), the value.
+ * First tag 1, a rule; then none to eight of tag 2, an argument's text; then at most one of tag 3,
+ * the step limit, four bytes, high first, at most 1,000,000; then at most one of tag 4, a label's
+ * text. Anything else, or more than 16,384 bytes, is a broken packet.
  */
 #ifndef LAZVORN_H
 #define LAZVORN_H
@@ -47,6 +54,12 @@ enum {
 /* How many numbers lazvorn_apply and lazvorn_run write. */
 enum { LAZVORN_COUNTED = 10 };
 
+/* The label's node in lazvorn_unlabel's answer, in which LAZVORN_NODE is the rule's node. */
+enum { LAZVORN_LABEL = 5 };
+
+/* How many numbers lazvorn_unlabel writes. */
+enum { LAZVORN_PARTS = 6 };
+
 /* Refusals. */
 enum {
     LAZVORN_LIMITS = 1, /* table, stack or out too long, used above the capacity, limit too large */
@@ -59,7 +72,8 @@ enum {
     LAZVORN_NO_NODES = 8,  /* a new node has no place */
     LAZVORN_NO_FRAMES = 9, /* every frame is held */
     LAZVORN_NO_OUT = 10,   /* the out bytes are full, or too few */
-    LAZVORN_RULE_TEXT = 12 /* a rule text has no reading, or is too long or too deep */
+    LAZVORN_NOT_LABELLED = 11, /* a tree is not of the labelled form */
+    LAZVORN_RULE_TEXT = 12     /* a rule text has no reading, or is too long or too deep */
 };
 
 /* Reads a text into the table. Gives node and used. Refusals 1, 2, 4, 8, 9. */
@@ -118,9 +132,21 @@ void lazvorn_label(
     size_t answer[5]); /* the five numbers */
 
 /*
+ * Takes a labelled tree apart, wherever its nodes lie. Gives the rule's node (LAZVORN_NODE), used
+ * as at entry, and the label's node (LAZVORN_LABEL). Refusals 1, 2, 3, 11.
+ */
+void lazvorn_unlabel(
+    const uint32_t *table, /* the table's words; they are read only */
+    size_t table_len,      /* how many words */
+    size_t used,           /* nodes in use */
+    size_t node,           /* the labelled tree's node */
+    size_t answer[6]);     /* the six numbers */
+
+/*
  * Runs a packet with the table taken as empty. Gives used, steps, digits and uses. Refusals 1, 4
  * to 10.
- * The step limit of a packet that names none (by tag 3) is 100,000.
+ * The step limit of a packet that names none (by tag 3) is 100,000. A label (tag 4) is passed over,
+ * but its text is checked after the arguments' texts.
  */
 void lazvorn_run(
     uint32_t *table,       /* the table's words */
@@ -132,6 +158,22 @@ void lazvorn_run(
     const uint8_t *packet, /* the packet, at most 16,384 bytes */
     size_t packet_len,     /* how many bytes */
     size_t answer[10]);    /* the ten numbers */
+
+/*
+ * Labels a packet's rule with its label, the table taken as empty, and writes the labelled tree as
+ * text. The packet is checked as lazvorn_run does, and one without a label (tag 4) is broken;
+ * arguments and step limit are passed over. Gives used and digits. Refusals 1, 4, 5, 6, 8, 9, 10.
+ */
+void lazvorn_label_packet(
+    uint32_t *table,       /* the table's words: the rule's nodes, the label's, and seven more */
+    size_t table_len,      /* how many words */
+    uint32_t *stack,       /* the stack's words */
+    size_t stack_len,      /* how many words */
+    uint8_t *out,          /* the out bytes for the labelled tree's text; those past it stay */
+    size_t out_len,        /* how many bytes */
+    const uint8_t *packet, /* the packet, at most 16,384 bytes */
+    size_t packet_len,     /* how many bytes */
+    size_t answer[5]);     /* the five numbers */
 
 /*
  * Reads a rule text and writes the bytes of its term to out. Gives the refusal and how many bytes
