@@ -60,6 +60,24 @@ impl Counted {
     }
 }
 
+/// The six numbers of an answer of `unlabel`: the nodes of a labelled tree's rule and label. A refusal
+/// has `used` as at entry and 0 for the others.
+#[derive(Clone, Copy, Debug, Default, PartialEq, Eq)]
+pub struct Parts {
+    /// 0 for success, else the refusal's number.
+    pub refusal: usize,
+    /// The rule's node.
+    pub rule: usize,
+    /// The count of used nodes, as at entry.
+    pub used: usize,
+    /// 0: nothing is applied.
+    pub steps: usize,
+    /// 0: nothing is written.
+    pub digits: usize,
+    /// The label's node.
+    pub label: usize,
+}
+
 /// The two numbers of an answer about a rule text. A refusal has 0 for the bytes.
 #[derive(Clone, Copy, Debug, Default, PartialEq, Eq)]
 pub struct TextNumbers {
@@ -89,6 +107,8 @@ pub const NODES: usize = 8;
 pub const FRAMES: usize = 9;
 /// The out bytes are full.
 pub const OUT: usize = 10;
+/// A tree is not of the labelled form.
+pub const NOT_LABELLED: usize = 11;
 /// A rule text is outside the grammar, has an unbound name, or is too long or too deep.
 pub const RULE_TEXT: usize = 12;
 
@@ -146,6 +166,13 @@ mod raw {
             label: usize,
             answer: *mut [usize; 5],
         );
+        pub fn lazvorn_unlabel(
+            table: *const u32,
+            table_len: usize,
+            used: usize,
+            node: usize,
+            answer: *mut [usize; 6],
+        );
         pub fn lazvorn_run(
             table: *mut u32,
             table_len: usize,
@@ -156,6 +183,17 @@ mod raw {
             packet: *const u8,
             packet_len: usize,
             answer: *mut [usize; 10],
+        );
+        pub fn lazvorn_label_packet(
+            table: *mut u32,
+            table_len: usize,
+            stack: *mut u32,
+            stack_len: usize,
+            out: *mut u8,
+            out_len: usize,
+            packet: *const u8,
+            packet_len: usize,
+            answer: *mut [usize; 5],
         );
         pub fn lazvorn_rule_text(
             text: *const u8,
@@ -292,11 +330,49 @@ pub fn label(table: &mut [u32], used: usize, rule: usize, label: usize) -> Numbe
     })
 }
 
+/// Takes the labelled tree of `node` apart: the nodes of its rule and of its label.
+pub fn unlabel(table: &[u32], used: usize, node: usize) -> Parts {
+    let mut answer = [usize::MAX; 6];
+    unsafe { raw::lazvorn_unlabel(table.as_ptr(), table.len(), used, node, &mut answer) };
+    let [refusal, rule, used, steps, digits, label] = answer;
+    Parts {
+        refusal,
+        rule,
+        used,
+        steps,
+        digits,
+        label,
+    }
+}
+
 /// Runs a packet with the table taken as empty, and writes the outcome's text to `out`. The step limit
-/// of a packet that names none is 100,000.
+/// of a packet that names none is 100,000. A label is passed over, if its text is whole.
 pub fn run(table: &mut [u32], stack: &mut [u32], out: &mut [u8], packet: &[u8]) -> Counted {
     counted(|answer| unsafe {
         raw::lazvorn_run(
+            table.as_mut_ptr(),
+            table.len(),
+            stack.as_mut_ptr(),
+            stack.len(),
+            out.as_mut_ptr(),
+            out.len(),
+            packet.as_ptr(),
+            packet.len(),
+            answer,
+        )
+    })
+}
+
+/// Labels a packet's rule with its label, with the table taken as empty, and writes the labelled tree's
+/// text to `out`. Arguments and step limit are passed over.
+pub fn label_packet(
+    table: &mut [u32],
+    stack: &mut [u32],
+    out: &mut [u8],
+    packet: &[u8],
+) -> Numbers {
+    numbers(|answer| unsafe {
+        raw::lazvorn_label_packet(
             table.as_mut_ptr(),
             table.len(),
             stack.as_mut_ptr(),
