@@ -3,8 +3,8 @@
 //! one too few of each, so that an argument in another's place, or a length that is lost, shows.
 
 use lazvorn::{
-    Counted, Numbers, TextNumbers, Uses, BROKEN, FRAMES, LIMITS, NODE, NODES, OUT, PACKET, RULE,
-    RULE_TEXT, STEPS, TEXT,
+    Counted, Numbers, Parts, TextNumbers, Uses, BROKEN, FRAMES, LIMITS, NODE, NODES, NOT_LABELLED,
+    OUT, PACKET, RULE, RULE_TEXT, STEPS, TEXT,
 };
 
 /// Fills memory that is to be left as found, or overwritten.
@@ -20,6 +20,7 @@ fn table(words: usize) -> Vec<u32> {
 
 /// The table and the stack of a call lie inside larger ones, so that a call that writes past a
 /// length shows.
+#[derive(Debug, PartialEq)]
 struct Lent {
     table: Vec<u32>,
     stack: Vec<u32>,
@@ -66,6 +67,21 @@ impl Lent {
         assert!(self.stack[..self.stack.len() - BEYOND]
             .iter()
             .all(|w| *w == 0));
+    }
+
+    /// The same lengths, as nothing has been written yet.
+    fn as_found(&self) -> Self {
+        let [words, stack, out] = [self.table.len(), self.stack.len(), self.out.len()];
+        Lent::new(words - BEYOND, stack - BEYOND, out - BEYOND)
+    }
+
+    /// What 7 to 10 leave where so many nodes were made: their words and the stack are 0.
+    fn is_undone(&self, nodes: usize) {
+        let mut undone = self.as_found();
+        undone.table[..2 * nodes].fill(0);
+        let stack = undone.stack.len() - BEYOND;
+        undone.stack[..stack].fill(0);
+        assert_eq!(*self, undone);
     }
 }
 
@@ -299,6 +315,237 @@ fn run() {
     assert_eq!(call(131_073, 73, 3, packet).0, refused_uses(LIMITS, 0));
     assert_eq!(call(37, 65_537, 3, packet).0, refused_uses(LIMITS, 0));
     assert_eq!(call(37, 73, 65_536, packet).0, refused_uses(LIMITS, 0));
+}
+
+/// "tree, steps and used are those of the packet without it", and so are all lent words and bytes.
+#[test]
+fn run_passes_over_a_label() {
+    let call = |packet: &[&[u8]]| {
+        let mut lent = Lent::new(37, 73, 3);
+        let (t, s, o) = lent.parts();
+        let numbers = lazvorn::run(t, s, o, &packet.concat());
+        (numbers, lent)
+    };
+    let packet = b"\x01\x00\x06\x02\x01\x03\x00\x03\x00\x02\x00\x010";
+    let limit = b"\x03\x00\x04\x00\x00\x00\x0a";
+    let label = b"\x04\x00\x0210";
+    let without = call(&[packet]);
+    assert_eq!((without.0.refusal, without.0.used), (0, 18));
+    assert_eq!(call(&[packet, label]), without);
+    assert_eq!(call(&[packet, limit, label]), without);
+    let refused = |parts: &[&[u8]], number| {
+        let (numbers, lent) = call(parts);
+        assert_eq!(numbers, refused_uses(number, 0));
+        assert_eq!(lent, lent.as_found());
+    };
+    // No digit, a fork that lacks a branch, and a byte that is none: not whole.
+    refused(&[packet, b"\x04\x00\x00"], TEXT);
+    refused(&[packet, b"\x04\x00\x0220"], TEXT);
+    refused(&[packet, b"\x04\x00\x013"], TEXT);
+    // At most one label, and nothing after it.
+    refused(&[packet, label, limit], PACKET);
+    refused(&[packet, label, label], PACKET);
+    refused(&[packet, label, b"\x02\x00\x010"], PACKET);
+    refused(&[packet, label, b"0"], PACKET);
+    refused(&[packet, &label[..4]], PACKET);
+    // 6 comes before 5, and 5 before 4.
+    let open_rule = b"\x01\x00\x03\x02\x03\x01";
+    refused(&[open_rule, b"\x04\x00\x00", b"\x04\x00\x00"], PACKET);
+    refused(&[open_rule, b"\x04\x00\x00"], RULE);
+}
+
+/// The rule λx. Δ, 02 00, is KΔ: 200, three nodes, and Translate wants six frames. Its label is 10, two
+/// nodes, and Label makes seven. Read lays digit p of n at node used + n - 1 - p.
+#[test]
+fn label_packet() {
+    let call = |words, stack, out, packet: &[u8]| {
+        let mut lent = Lent::new(words, stack, out);
+        let (t, s, o) = lent.parts();
+        let numbers = lazvorn::label_packet(t, s, o, packet);
+        (numbers, lent)
+    };
+    let bytes = b"\x01\x00\x02\x02\x00\x02\x00\x010\x04\x00\x02100";
+    let packet = &bytes[..14];
+    let (numbers, lent) = call(25, 20, 14, packet);
+    let labelled = Numbers {
+        used: 12,
+        digits: 13,
+        ..Numbers::default()
+    };
+    assert_eq!(numbers, labelled);
+    // The rule's fork is node 2 and the label's stem node 4. Then leaf, its stem, their fork KK, the
+    // rule's stem, its fork with KK, the label's stem, and the fork of this and that fork.
+    assert_eq!(
+        lent.table[..25],
+        [0, 0, 0, 0, 2, 1, 0, 0, 4, 0, 0, 0, 6, 0, 6, 7, 3, 0, 9, 8, 5, 0, 11, 10, NOISE]
+    );
+    // 2 1 and the label, 2 1 and the rule, KK; the byte past the text stays.
+    assert_eq!(lent.out[..14], *b"2110212002010\xa5");
+    lent.nothing_beyond();
+    lent.stack_is_zero();
+    assert_eq!(call(24, 18, 13, packet).0, labelled);
+
+    let refused = |[words, stack, out]: [usize; 3], packet: &[u8], number| {
+        let (numbers, lent) = call(words, stack, out, packet);
+        assert_eq!(numbers, refused(number, 0));
+        lent
+    };
+    // 8 by Label, by Read, by Translate; 9 by Translate; 10 by Write, which made all twelve.
+    refused([23, 20, 14], packet, NODES).is_undone(5);
+    refused([9, 20, 14], packet, NODES).is_undone(3);
+    refused([5, 20, 14], packet, NODES).is_undone(0);
+    refused([0, 20, 14], packet, NODES).is_undone(0);
+    refused([25, 17, 14], packet, FRAMES).is_undone(0);
+    refused([25, 0, 14], packet, FRAMES).is_undone(0);
+    refused([25, 20, 12], packet, OUT).is_undone(12);
+    refused([25, 20, 0], packet, OUT).is_undone(12);
+    // 9 by Read: six forks, each in the first branch, leave seven trees pending.
+    let deep = [&packet[..9], b"\x04\x00\x0d2222220000000"].concat();
+    refused([46, 20, 24], &deep, FRAMES).is_undone(3);
+    assert_eq!(call(46, 21, 24, &deep).0.used, 23);
+
+    let unchanged = |room, packet: &[u8], number| {
+        let lent = refused(room, packet, number);
+        assert_eq!(lent, lent.as_found());
+    };
+    let room = [25, 20, 14];
+    unchanged([131_073, 20, 14], packet, LIMITS);
+    unchanged([25, 65_537, 14], packet, LIMITS);
+    unchanged([25, 20, 65_536], packet, LIMITS);
+    unchanged([131_073, 20, 14], &[], LIMITS);
+    assert_eq!(call(131_072, 65_536, 65_535, packet).0, labelled);
+    // A byte more or less, no label, no byte; without memory too.
+    unchanged(room, bytes, PACKET);
+    unchanged(room, &packet[..13], PACKET);
+    unchanged(room, &packet[..9], PACKET);
+    unchanged(room, &[], PACKET);
+    unchanged([0, 0, 0], &[], PACKET);
+    // 6 comes before 5, also where only the label is missing, 5 before 4, and 4 before 8.
+    unchanged(room, b"\x01\x00\x00", PACKET);
+    unchanged(room, b"\x01\x00\x00\x04\x00\x00", RULE);
+    unchanged(room, b"\x01\x00\x02\x02\x00\x04\x00\x00", TEXT);
+    unchanged([0, 0, 0], b"\x01\x00\x02\x02\x00\x04\x00\x0220", TEXT);
+    unchanged(
+        room,
+        b"\x01\x00\x02\x02\x00\x02\x00\x011\x04\x00\x010",
+        TEXT,
+    );
+}
+
+/// Node 9 is the rule at node 2 labelled with node 1, as Label makes it in the test above.
+const LABELLED: [u32; 20] = [0, 0, 1, 0, 1, 2, 0, 0, 4, 0, 4, 5, 3, 0, 7, 6, 2, 0, 9, 8];
+
+fn parts(rule: usize, used: usize, label: usize) -> Parts {
+    Parts {
+        rule,
+        used,
+        label,
+        ..Parts::default()
+    }
+}
+
+fn refused_parts(refusal: usize, used: usize) -> Parts {
+    Parts {
+        refusal,
+        used,
+        ..Parts::default()
+    }
+}
+
+#[test]
+fn unlabel() {
+    // The words of a call lie before noise, which a length that is lost would reach.
+    let call = |words: &[u32], length: usize, used, node| {
+        let mut table = vec![NOISE; length.max(words.len()) + BEYOND];
+        table[..words.len()].copy_from_slice(words);
+        let before = table.clone();
+        let parts = lazvorn::unlabel(&table[..length], used, node);
+        assert_eq!(table, before);
+        parts
+    };
+    // Δ(Δt) is node 8 and t node 1; Δ(Δf)(KK) is node 7, Δf node 6 and f node 2; KK is node 5.
+    assert_eq!(call(&LABELLED, 20, 10, 9), parts(2, 10, 1));
+    assert_eq!(call(&LABELLED, 21, 10, 9), parts(2, 10, 1));
+    assert_eq!(call(&LABELLED, 131_072, 10, 9), parts(2, 10, 1));
+    for node in 0..9 {
+        let refused = refused_parts(NOT_LABELLED, 10);
+        assert_eq!(call(&LABELLED, 20, 10, node), refused, "{node}");
+    }
+    assert_eq!(call(&LABELLED, 131_073, 10, 9), refused_parts(LIMITS, 10));
+    assert_eq!(call(&LABELLED, 21, 11, 9), refused_parts(LIMITS, 11));
+    assert_eq!(call(&LABELLED, 19, 10, 9), refused_parts(LIMITS, 10));
+    let most = usize::MAX;
+    assert_eq!(call(&LABELLED, 20, most, 9), refused_parts(LIMITS, most));
+    assert_eq!(call(&[], 0, 1, 0), refused_parts(LIMITS, 1));
+    assert_eq!(call(&LABELLED, 22, 11, 9), refused_parts(BROKEN, 11));
+    assert_eq!(call(&LABELLED, 22, 11, 11), refused_parts(BROKEN, 11));
+    assert_eq!(call(&LABELLED, 20, 10, 10), refused_parts(NODE, 10));
+    assert_eq!(call(&LABELLED, 20, 9, 9), refused_parts(NODE, 9));
+    assert_eq!(call(&LABELLED, 20, 10, most), refused_parts(NODE, 10));
+    assert_eq!(call(&[], 0, 0, 0), refused_parts(NODE, 0));
+    // A broken node that the tree does not reach.
+    let mut broken = [&LABELLED[..], &[0, 1]].concat();
+    assert_eq!(call(&broken, 22, 11, 9), refused_parts(BROKEN, 11));
+    assert_eq!(call(&broken, 22, 10, 9), parts(2, 10, 1));
+    broken[20] = 1;
+    assert_eq!(call(&broken, 22, 11, 9), parts(2, 11, 1));
+}
+
+#[test]
+fn unlabel_by_the_form() {
+    let call = |words: &[u32]| lazvorn::unlabel(words, words.len() / 2, words.len() / 2 - 1);
+    // One node of the form is another: its kind, or the node that a branch is.
+    for (node, words) in [
+        (9, [9, 0]),
+        (9, [8, 8]),
+        (9, [9, 9]),
+        (9, [9, 7]),
+        (8, [0, 0]),
+        (8, [2, 2]),
+        (7, [0, 0]),
+        (7, [7, 0]),
+        (7, [6, 6]),
+        (7, [7, 5]),
+        (6, [0, 0]),
+        (6, [3, 3]),
+        (5, [0, 0]),
+        (5, [5, 0]),
+        (5, [4, 4]),
+        (5, [5, 4]),
+        (5, [5, 5]),
+        (4, [0, 0]),
+        (4, [4, 4]),
+        (4, [2, 0]),
+        (3, [1, 0]),
+        (3, [1, 1]),
+    ] {
+        let mut table = LABELLED;
+        table[2 * node..2 * node + 2].copy_from_slice(&words);
+        let refused = refused_parts(NOT_LABELLED, 10);
+        assert_eq!(call(&table), refused, "{node} {words:?}");
+    }
+    // Shared nodes: K is the leaf's stem in KK and Δf and Δt; then f and t are KK itself.
+    assert_eq!(call(&[0, 0, 1, 0, 1, 2, 2, 3, 2, 4]), parts(0, 5, 0));
+    assert_eq!(call(&[0, 0, 1, 0, 1, 2, 3, 0, 4, 3, 4, 5]), parts(2, 6, 2));
+    // KK of two leaves, whose nodes are f and t too, made before Δf; then Δt made first.
+    let two_leaves = [0, 0, 0, 0, 2, 0, 1, 3, 1, 0, 5, 4, 2, 0, 7, 6];
+    assert_eq!(call(&two_leaves), parts(0, 8, 1));
+    let label_first = [0, 0, 1, 0, 0, 0, 3, 0, 1, 4, 3, 0, 6, 5, 2, 7];
+    assert_eq!(call(&label_first), parts(2, 8, 0));
+}
+
+/// What Label makes, and what Read makes of the text of a labelled tree, is taken apart again.
+#[test]
+fn unlabel_after_label_and_after_read() {
+    let mut table = table(20);
+    let labelled = lazvorn::label(&mut table, 3, 0, 2);
+    let unlabelled = lazvorn::unlabel(&table, labelled.used, labelled.node);
+    assert_eq!(unlabelled, parts(0, 10, 2));
+    // Read lays digit p of 13 at node 12 - p: the rule begins at 6 and the label at 2.
+    let (mut table, mut stack) = ([NOISE; 26], [NOISE; 9]);
+    let read = lazvorn::read(&mut table, 0, &mut stack, b"2110212002010");
+    assert_eq!((read.refusal, read.node), (0, 12));
+    assert_eq!(lazvorn::unlabel(&table, 13, 12), parts(6, 13, 10));
 }
 
 /// Five counts that all differ, summed over the arguments. I is λx. x, 21010.

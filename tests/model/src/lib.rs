@@ -23,6 +23,9 @@ pub type Answer = [usize; 5];
 /// The same of Apply and Run, and the uses of leaf, stem, drop, spread and triage ([5]).
 pub type Counted = [usize; 10];
 
+/// Of a labelled tree ([1]): refusal, the rule's node, used, 0, 0, the label's node.
+pub type Parts = [usize; 6];
+
 /// How often each rule was used.
 type Uses = [usize; 5];
 
@@ -44,18 +47,10 @@ impl Memory {
 
     /// The checks for 1 and 2 that the operations share.
     fn check(&self, used: usize) -> Result<(), Refusal> {
-        if self.table.len() > 131_072 || self.stack.len() > 65_536 || used > self.capacity() {
+        if self.stack.len() > 65_536 {
             return Err(1);
         }
-        let broken = (0..used).any(|i| {
-            let (a, b) = (self.table[2 * i], self.table[2 * i + 1]);
-            (a == 0 && b != 0) || a as usize > i || b as usize > i
-        });
-        if broken {
-            Err(2)
-        } else {
-            Ok(())
-        }
+        check_table(&self.table, used)
     }
 
     /// What 7 to 10 do to the nodes from `used` up to `end`, and to the stack.
@@ -67,6 +62,22 @@ impl Memory {
     fn put(&mut self, node: usize, first: usize, second: usize) {
         self.table[2 * node] = first as u32;
         self.table[2 * node + 1] = second as u32;
+    }
+}
+
+/// The same checks where no stack is lent.
+fn check_table(table: &[u32], used: usize) -> Result<(), Refusal> {
+    if table.len() > 131_072 || used > table.len() / 2 {
+        return Err(1);
+    }
+    let broken = (0..used).any(|i| {
+        let (a, b) = (table[2 * i], table[2 * i + 1]);
+        (a == 0 && b != 0) || a as usize > i || b as usize > i
+    });
+    if broken {
+        Err(2)
+    } else {
+        Ok(())
     }
 }
 
@@ -566,14 +577,7 @@ pub fn apply(
 
 /// Label has no stack: the memory's stack and out bytes are not lent to it.
 pub fn label(memory: &mut Memory, used: usize, rule: usize, label: usize) -> Answer {
-    let lent = Memory {
-        table: std::mem::take(&mut memory.table),
-        stack: Vec::new(),
-        out: Vec::new(),
-    };
-    let checked = lent.check(used);
-    memory.table = lent.table;
-    if let Err(number) = checked {
+    if let Err(number) = check_table(&memory.table, used) {
         return refused(number, used);
     }
     if rule >= used || label >= used {
@@ -592,12 +596,55 @@ pub fn label(memory: &mut Memory, used: usize, rule: usize, label: usize) -> Ans
     [0, used + 6, used + 7, 0, 0]
 }
 
+/// The nodes of f and of t where a tree is Δ(Δt)(Δ(Δf)(KK)).
+fn parts(tree: &Tree) -> Option<(usize, usize)> {
+    let (first, second) = fork(tree)?;
+    let t = stem(first)?;
+    let (first, kk) = fork(second)?;
+    let f = stem(first)?;
+    let mut text = Vec::new();
+    // K is ΔΔ, so KK is ΔΔ(ΔΔ), the fork of a leaf and a leaf's stem. Four digits tell it.
+    let written = digits(kk, 0, usize::MAX, 4, &mut text);
+    (written.is_ok() && text == b"2010").then_some((f.node, t.node))
+}
+
+fn stem(tree: &Tree) -> Option<&Tree> {
+    match &tree.shape {
+        Shape::Stem(p) => Some(p),
+        _ => None,
+    }
+}
+
+fn fork(tree: &Tree) -> Option<(&Tree, &Tree)> {
+    match &tree.shape {
+        Shape::Fork(p, q) => Some((p, q)),
+        _ => None,
+    }
+}
+
+/// "It also takes a node number and gives the nodes of label and rule out of a labelled tree." ([1])
+/// The table is only read, and nothing else is lent.
+pub fn unlabel(table: &[u32], used: usize, node: usize) -> Parts {
+    let refused = |number| [number, 0, used, 0, 0, 0];
+    if let Err(number) = check_table(table, used) {
+        return refused(number);
+    }
+    if node >= used {
+        return refused(3);
+    }
+    match parts(&trees(table, used)[node]) {
+        None => refused(11),
+        Some((rule, label)) => [0, rule, used, 0, 0, label],
+    }
+}
+
 // ---- packets
 
 struct Packet<'a> {
     rule: &'a [u8],
     arguments: Vec<&'a [u8]>,
     limit: usize,
+    label: Option<&'a [u8]>,
 }
 
 /// The field at `at` if its tag is `tag`: its value and the place after it.
@@ -628,26 +675,52 @@ fn packet_of(packet: &[u8]) -> Option<Packet<'_>> {
             .fold(0, |n, byte| n * 256 + usize::from(**byte));
         at = end;
     }
+    // "A packet may end with one field of tag 4, a label's text." ([1])
+    let mut label = None;
+    if let Some((text, end)) = field(packet, at, 4) {
+        label = Some(text);
+        at = end;
+    }
     (at == packet.len() && arguments.len() <= 8 && limit <= 1_000_000).then_some(Packet {
         rule,
         arguments,
         limit,
+        label,
     })
 }
 
-pub fn run(memory: &mut Memory, packet: &[u8]) -> Counted {
+/// Who reads a packet: "a packet without tag 4 is 6" to the office alone ([1]).
+#[derive(Clone, Copy, PartialEq)]
+enum Reader {
+    Depot,
+    Office,
+}
+
+/// 1 for lengths, 6, 5, then 4 for the arguments' texts, first to last, and for the label's after them.
+fn checked<'a>(memory: &Memory, packet: &'a [u8], reader: Reader) -> Result<Packet<'a>, Refusal> {
     if memory.table.len() > 131_072 || memory.stack.len() > 65_536 || memory.out.len() > 65_535 {
-        return refused_uses(1, 0);
+        return Err(1);
     }
-    let Some(packet) = packet_of(packet) else {
-        return refused_uses(6, 0);
-    };
+    let packet = packet_of(packet).ok_or(6usize)?;
+    if reader == Reader::Office && packet.label.is_none() {
+        return Err(6);
+    }
     if rule(packet.rule).is_none() {
-        return refused_uses(5, 0);
+        return Err(5);
     }
-    if packet.arguments.iter().any(|text| readable(text).is_none()) {
-        return refused_uses(4, 0);
+    let mut texts = packet.arguments.iter().chain(&packet.label);
+    if texts.any(|text| readable(text).is_none()) {
+        return Err(4);
     }
+    Ok(packet)
+}
+
+/// The depot reader: a label whose text is whole changes nothing.
+pub fn run(memory: &mut Memory, packet: &[u8]) -> Counted {
+    let packet = match checked(memory, packet, Reader::Depot) {
+        Ok(packet) => packet,
+        Err(number) => return refused_uses(number, 0),
+    };
     let mut used = 0;
     match stages(memory, &packet, &mut used) {
         Ok(answer) => answer,
@@ -689,4 +762,55 @@ fn taken<const N: usize>(answer: [usize; N], used: &mut usize) -> Result<[usize;
         }
         number => Err(number),
     }
+}
+
+/// Where the labelling of a packet ends: at the checks of the packet, or at a stage.
+#[derive(Clone, Copy, Debug, PartialEq, Eq)]
+pub enum Stage {
+    Checks,
+    Translate,
+    Read,
+    Label,
+    Write,
+}
+
+/// The office reader: "Translate, Read of the label, Label, Write" ([1]). Arguments and step limit are
+/// passed over.
+pub fn label_packet(memory: &mut Memory, packet: &[u8]) -> Answer {
+    label_packet_to(memory, packet).0
+}
+
+/// The same, and the stage at which it ends.
+pub fn label_packet_to(memory: &mut Memory, packet: &[u8]) -> (Answer, Stage) {
+    let packet = match checked(memory, packet, Reader::Office) {
+        Ok(packet) => packet,
+        Err(number) => return (refused(number, 0), Stage::Checks),
+    };
+    let (mut used, mut stage) = (0, Stage::Translate);
+    let answer = match label_stages(memory, &packet, &mut used, &mut stage) {
+        Ok(answer) => answer,
+        Err(number) => {
+            memory.undo(0, used);
+            refused(number, 0)
+        }
+    };
+    (answer, stage)
+}
+
+/// The operations in the office's order. `used` is the count of nodes made by those that succeeded.
+fn label_stages(
+    memory: &mut Memory,
+    packet: &Packet,
+    used: &mut usize,
+    stage: &mut Stage,
+) -> Result<Answer, Refusal> {
+    let rule = taken(translate(memory, 0, packet.rule), used)?[1];
+    *stage = Stage::Read;
+    let text = packet.label.expect("the office's packet has a label");
+    let tree = taken(read(memory, *used, text), used)?[1];
+    *stage = Stage::Label;
+    let node = taken(label(memory, *used, rule, tree), used)?[1];
+    *stage = Stage::Write;
+    let written = taken(write(memory, *used, node), used)?;
+    Ok([0, 0, *used, 0, written[4]])
 }

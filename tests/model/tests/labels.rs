@@ -1,0 +1,178 @@
+//! The model's readers of labelled packets and trees against documents 01 and 02. The rule of document
+//! 01's packet, 02 01 03 00 03 00, is 212101021010, twelve nodes; its label here is 10, two nodes; so
+//! the labelled tree Δ(Δt)(Δ(Δf)(KK)) is 2 1 10 2 1 212101021010 2010.
+
+use model::{label, label_packet, label_packet_to, read, run, unlabel, write, Memory, Stage};
+
+const RULE: &[u8] = &[1, 0, 6, 2, 1, 3, 0, 3, 0];
+const ARGUMENT: &[u8] = b"\x02\x00\x010";
+const LIMIT: &[u8] = &[3, 0, 4, 0, 0, 0, 10];
+const LABEL: &[u8] = b"\x04\x00\x0210";
+const TEXT: &[u8] = b"2110212121010210102010";
+
+/// Memory that no operation has written to.
+fn memory(nodes: usize, frames: usize, out: usize) -> Memory {
+    Memory {
+        table: vec![77; 2 * nodes + 1],
+        stack: vec![77; 3 * frames + 2],
+        out: vec![77; out],
+    }
+}
+
+/// What 8, 9 and 10 leave where so many nodes were made.
+fn undone(found: &Memory, nodes: usize) -> Memory {
+    let mut memory = found.clone();
+    memory.table[..2 * nodes].fill(0);
+    memory.stack.fill(0);
+    memory
+}
+
+/// "tree, steps and used are those of the packet without it"
+#[test]
+fn a_label_passed_over() {
+    let runs = |parts: &[&[u8]]| {
+        let mut memory = memory(18, 24, 3);
+        (run(&mut memory, &parts.concat()), memory)
+    };
+    let without = runs(&[RULE, ARGUMENT]);
+    assert_eq!(without.0, [0, 0, 18, 10, 2, 3, 2, 2, 3, 0]);
+    assert_eq!(without.1.out[..], [b'1', b'0', 77]);
+    assert_eq!(runs(&[RULE, ARGUMENT, LABEL]), without);
+    assert_eq!(runs(&[RULE, ARGUMENT, LIMIT, LABEL]), without);
+}
+
+/// 6, 5, then 4 for the arguments and 4 for the label: each leaves memory as found.
+#[test]
+fn checks_in_order() {
+    let open_rule: &[u8] = &[1, 0, 3, 2, 3, 1];
+    let (empty, broken): (&[u8], &[u8]) = (&[4, 0, 0], b"\x04\x00\x0220");
+    let wrong_argument = b"\x02\x00\x011";
+    // The refusals of Run and of label_packet, 0 where there is none.
+    let rows: [(&[&[u8]], usize, usize); 18] = [
+        (&[RULE, LABEL], 0, 0),
+        (&[RULE, LIMIT, LABEL], 0, 0),
+        (&[RULE], 0, 6),
+        (&[RULE, LIMIT], 0, 6),
+        (&[RULE, LABEL, LIMIT], 6, 6),
+        (&[RULE, LABEL, ARGUMENT], 6, 6),
+        (&[RULE, LABEL, LABEL], 6, 6),
+        (&[RULE, LABEL, &[0]], 6, 6),
+        (&[LABEL, RULE], 6, 6),
+        (&[RULE, empty], 4, 4),
+        (&[RULE, broken], 4, 4),
+        (&[RULE, wrong_argument, LABEL], 4, 4),
+        (&[RULE, wrong_argument], 4, 6),
+        (&[open_rule, LABEL], 5, 5),
+        (&[open_rule, empty], 5, 5),
+        (&[open_rule], 5, 6),
+        (&[open_rule, LABEL, LABEL], 6, 6),
+        (&[], 6, 6),
+    ];
+    for (parts, depot, office) in rows {
+        let packet = parts.concat();
+        for (number, labels) in [(depot, false), (office, true)] {
+            let found = memory(60, 60, 60);
+            let mut after = found.clone();
+            let refusal = match labels {
+                false => run(&mut after, &packet)[0],
+                true => label_packet(&mut after, &packet)[0],
+            };
+            assert_eq!(refusal, number, "{packet:?}");
+            assert!(number == 0 || after == found, "{packet:?}");
+        }
+    }
+}
+
+/// "a packet [..] more than 16,384 bytes, is 6", with the label among the bytes.
+#[test]
+fn the_longest_packet() {
+    let packet = |digits: usize| {
+        let head = [2, (digits >> 8) as u8, digits as u8];
+        let text = [vec![b'1'; digits - 1], vec![b'0']].concat();
+        [&[1, 0, 2, 2, 0], &head[..], &text, LABEL].concat()
+    };
+    let [longest, longer] = [packet(16_371), packet(16_372)];
+    assert_eq!(longest.len(), 16_384);
+    let on_a_large_stack = move || {
+        let refusal = |packet: &[u8]| label_packet(&mut memory(12, 6, 13), packet)[0];
+        assert_eq!([refusal(&longest), refusal(&longer)], [0, 6]);
+    };
+    let thread = std::thread::Builder::new().stack_size(1 << 28);
+    assert!(thread
+        .spawn(on_a_large_stack)
+        .expect("a thread")
+        .join()
+        .is_ok());
+}
+
+/// 12 nodes and 24 frames by Translate, 2 nodes by Read, 7 by Label, 22 digits by Write.
+#[test]
+fn the_stages_of_the_office() {
+    let packet = [RULE, ARGUMENT, LABEL].concat();
+    let ends = |nodes, frames, out| {
+        let found = memory(nodes, frames, out);
+        let mut after = found.clone();
+        let (answer, stage) = label_packet_to(&mut after, &packet);
+        (answer, stage, found, after)
+    };
+    let (answer, stage, found, after) = ends(21, 24, 23);
+    assert_eq!((answer, stage), ([0, 0, 21, 0, 22], Stage::Write));
+    assert_eq!(after.out, [TEXT, &found.out[22..]].concat());
+    assert!(after.stack.iter().all(|word| *word == 0));
+    // Label's seven, after the rule's node 11 and the label's node 13; the last word is no node's.
+    assert_eq!(
+        after.table[28..],
+        [0, 0, 15, 0, 15, 16, 12, 0, 18, 17, 14, 0, 20, 19, 77]
+    );
+    for ([nodes, frames, out], number, stage, made) in [
+        ([11, 24, 22], 8, Stage::Translate, 0),
+        ([11, 23, 22], 8, Stage::Translate, 0),
+        ([21, 23, 22], 9, Stage::Translate, 0),
+        ([13, 24, 22], 8, Stage::Read, 12),
+        ([20, 24, 22], 8, Stage::Label, 14),
+        ([14, 24, 22], 8, Stage::Label, 14),
+        ([21, 24, 21], 10, Stage::Write, 21),
+        ([21, 24, 0], 10, Stage::Write, 21),
+    ] {
+        let (answer, at, found, after) = ends(nodes, frames, out);
+        assert_eq!((answer, at), ([number, 0, 0, 0, 0], stage));
+        assert_eq!(after, undone(&found, made));
+    }
+}
+
+/// 9 by Read: 29 forks, each in the first branch, leave 30 trees pending, more than the rule's 24 frames.
+#[test]
+fn frames_of_the_label() {
+    let text = [vec![b'2'; 29], vec![b'0'; 30]].concat();
+    let packet = [RULE, &[4, 0, 59], &text].concat();
+    let found = memory(100, 29, 100);
+    let mut after = found.clone();
+    let (answer, stage) = label_packet_to(&mut after, &packet);
+    assert_eq!((answer[0], stage), (9, Stage::Read));
+    assert_eq!(after, undone(&found, 12));
+    // Write holds one frame for the labelled tree's fork and 29 for the label's.
+    assert_eq!(label_packet(&mut memory(100, 30, 100), &packet)[0], 0);
+}
+
+/// Rule and label come back out of a labelled tree that Read made and one that Label made.
+#[test]
+fn unlabelled() {
+    let mut memory = memory(60, 30, 60);
+    let [_, node, used, ..] = read(&mut memory, 0, TEXT);
+    // Digit p of 22 is node 21 - p: the label begins at 2 and the rule at 6.
+    let answer = unlabel(&memory.table, used, node);
+    assert_eq!(answer, [0, 15, 22, 0, 0, 19]);
+    let [_, rule, .., tree] = answer;
+    for (node, text) in [(rule, &b"212101021010"[..]), (tree, b"10")] {
+        let digits = write(&mut memory, used, node)[4];
+        assert_eq!(memory.out[..digits], *text);
+    }
+    let [_, node, used, ..] = label(&mut memory, used, 3, 5);
+    assert_eq!(unlabel(&memory.table, used, node), [0, 3, 29, 0, 0, 5]);
+    // 1, 2, 3, 11.
+    assert_eq!(unlabel(&memory.table, 61, node), [1, 0, 61, 0, 0, 0]);
+    assert_eq!(unlabel(&[0; 131_073], 1, 0), [1, 0, 1, 0, 0, 0]);
+    assert_eq!(unlabel(&memory.table, 30, node), [2, 0, 30, 0, 0, 0]);
+    assert_eq!(unlabel(&memory.table, used, used), [3, 0, 29, 0, 0, 0]);
+    assert_eq!(unlabel(&memory.table, used, rule), [11, 0, 29, 0, 0, 0]);
+}
