@@ -88,6 +88,7 @@ fn eight(digits: usize, room: Room) -> Case {
         rule: vec![2, 3, 0],
         arguments,
         limit: None,
+        label: None,
     };
     case(parts, room)
 }
@@ -98,6 +99,7 @@ fn single() -> [(&'static str, Case); 4] {
         rule: vec![2, 1, 3, 0, 3, 0],
         arguments: vec![b"0".to_vec()],
         limit: None,
+        label: None,
     };
     [
         (

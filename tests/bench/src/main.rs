@@ -523,6 +523,7 @@ fn run_call(text: Vec<u8>) -> Call {
         rule: vec![2, 3, 0],
         arguments: vec![text],
         limit: None,
+        label: None,
     };
     let packet = parts.packet();
     let mut m = memory();

@@ -104,6 +104,7 @@ impl Workload {
             rule: rule.to_vec(),
             arguments,
             limit: Some(limit as u32),
+            label: None,
         };
         let mut workload = Workload {
             name,
@@ -153,6 +154,7 @@ pub fn stems() -> Parts {
         rule: [&[2, 1, 1, 1, 3, 0, 3, 0], STEM, &[0]].concat(),
         arguments: vec![text_of(&times(5))],
         limit: Some(1_000_000),
+        label: None,
     }
 }
 

@@ -1,10 +1,10 @@
-//! Read, Write, Translate, Apply and Label beside the model, on tables that are sound, broken or
-//! noise, with lengths and numbers at and beyond every border.
+//! Read, Write, Translate, Apply, Label and `unlabel` beside the model, on tables that are sound, broken
+//! or noise, with lengths and numbers at and beyond every border.
 
 use crate::{difference, hexadecimal, Counts, Noise};
 use compare::random::Random;
 use compare::trees;
-use compare::{answer_of, counted_of};
+use compare::{answer_of, counted_of, parts_of};
 use model::Memory;
 
 /// An operation, with the refusals that it can meet.
@@ -15,7 +15,7 @@ pub struct Operation {
     call: fn(&mut Random, &Noise) -> Call,
 }
 
-pub const OPERATIONS: [Operation; 5] = [
+pub const OPERATIONS: [Operation; 6] = [
     Operation {
         name: "Read",
         refusals: &[1, 2, 4, 8, 9],
@@ -41,6 +41,11 @@ pub const OPERATIONS: [Operation; 5] = [
         refusals: &[1, 2, 3, 8],
         call: label,
     },
+    Operation {
+        name: "Unlabel",
+        refusals: &[1, 2, 3, 11],
+        call: unlabel,
+    },
 ];
 
 /// A call that was made: the model's refusal, and what it was where the engine differs.
@@ -56,7 +61,7 @@ pub fn compare(
     operation: Operation,
     calls: usize,
 ) -> (Counts, usize) {
-    let mut counts = [0; 11];
+    let mut counts = Counts::default();
     let mut differences = 0;
     for _ in 0..calls {
         let call = (operation.call)(random, noise);
@@ -172,7 +177,7 @@ fn memory(random: &mut Random, noise: &Noise, stack: usize, out: usize) -> (Memo
     let words = words(random);
     let mut memory = noise.memory(random, words, stack, out);
     let capacity = words / 2;
-    let mut used = match random.below(8) {
+    let used = match random.below(8) {
         0..=3 => plant(random, &mut memory.table),
         4..=6 => {
             let used = random.below(capacity.min(3_000) + 1);
@@ -181,9 +186,15 @@ fn memory(random: &mut Random, noise: &Noise, stack: usize, out: usize) -> (Memo
         }
         _ => random.below(capacity + 1),
     };
+    let used = spoil(random, &mut memory.table, used);
+    (memory, used)
+}
+
+/// Now and then breaks one of the nodes in use, or has too many in use; how many are in use then.
+fn spoil(random: &mut Random, table: &mut [u32], used: usize) -> usize {
     match random.below(60) {
-        0 => used = capacity + random.within(1, 3),
-        1 => used = odd_number(random),
+        0 => return table.len() / 2 + random.within(1, 3),
+        1 => return odd_number(random),
         2..=6 if used > 0 => {
             // One broken node: a second branch alone, a branch that is the node itself or comes after
             // it.
@@ -192,7 +203,7 @@ fn memory(random: &mut Random, noise: &Noise, stack: usize, out: usize) -> (Memo
             } else {
                 random.below(used)
             };
-            let node = &mut memory.table[2 * i..2 * i + 2];
+            let node = &mut table[2 * i..2 * i + 2];
             match random.below(4) {
                 0 => node.copy_from_slice(&[0, random.within(1, 4) as u32]),
                 1 => node[0] = i as u32 + 1,
@@ -202,7 +213,7 @@ fn memory(random: &mut Random, noise: &Noise, stack: usize, out: usize) -> (Memo
         }
         _ => {}
     }
-    (memory, used)
+    used
 }
 
 /// A count of words for a stack.
@@ -382,5 +393,175 @@ fn label(random: &mut Random, noise: &Noise) -> Call {
         || format!("{rule} with {label}, {used} nodes in use"),
         |m| answer_of(lazvorn::label(&mut m.table, used, rule, label)),
         |m| model::label(m, used, rule, label),
+    )
+}
+
+/// A labelled tree in a table: its node, and the nodes of its rule and its label.
+struct Labelled {
+    table: Vec<u32>,
+    used: usize,
+    node: usize,
+    rule: usize,
+    label: usize,
+}
+
+/// A labelled tree as Label makes it of two nodes of a sound table.
+fn by_label(random: &mut Random, noise: &Noise) -> Labelled {
+    let words = 2 * random.within(1, 200);
+    let mut table = noise.memory(random, words, 0, 0).table;
+    let used = random.within(1, words / 2);
+    sow(random, &mut table, used);
+    table.resize((words).max(2 * used + 14), 7);
+    let (rule, label) = (random.below(used), random.below(used));
+    let made = lazvorn::label(&mut table, used, rule, label);
+    Labelled {
+        table,
+        used: made.used,
+        node: made.node,
+        rule,
+        label,
+    }
+}
+
+/// A labelled tree as Read makes it of its text: digit p of n is node used + n - 1 - p, and the label
+/// begins at digit 2, the rule two digits after it.
+fn by_read(random: &mut Random, noise: &Noise) -> Labelled {
+    let (rule, label) = (trees::text(random), trees::text(random));
+    let text = [b"21", &label[..], b"21", &rule, b"2010"].concat();
+    let before = random.below(20);
+    let words = 2 * (before + text.len()) + random.below(9);
+    let mut memory = noise.memory(random, words, 65_536, 0);
+    sow(random, &mut memory.table, before);
+    let read = lazvorn::read(&mut memory.table, before, &mut memory.stack, &text);
+    Labelled {
+        table: memory.table,
+        used: read.used,
+        node: read.node,
+        rule: read.node - 4 - label.len(),
+        label: read.node - 2,
+    }
+}
+
+/// A labelled tree whose nodes were made in some order, with others between them, and that shares nodes
+/// with itself and with these.
+fn scattered(random: &mut Random) -> Labelled {
+    let mut table: Vec<u32> = Vec::new();
+    let used = random.within(1, 6);
+    table.resize(2 * used, 0);
+    sow(random, &mut table, used);
+    // The word of a node with these words: one that is there, or a new one.
+    let mut put = |random: &mut Random, first: u32, second: u32| {
+        let nodes = table.len() as u32 / 2;
+        if random.once_in(3) {
+            let other = random.within(0, nodes as usize) as u32;
+            table.extend([other, if random.once_in(2) { 0 } else { other }]);
+        }
+        let there = table.chunks(2).position(|node| node == [first, second]);
+        match there.filter(|_| random.once_in(2)) {
+            Some(node) => node as u32 + 1,
+            None => {
+                table.extend([first, second]);
+                table.len() as u32 / 2
+            }
+        }
+    };
+    let any = |random: &mut Random| random.within(1, used) as u32;
+    let (rule, label) = (any(random), any(random));
+    let label_first = random.once_in(2);
+    let mut label_stem = 0;
+    if label_first {
+        label_stem = put(random, label, 0);
+    }
+    let rule_first = random.once_in(2);
+    let mut rule_stem = 0;
+    if rule_first {
+        rule_stem = put(random, rule, 0);
+    }
+    let (leaf, other) = (put(random, 0, 0), put(random, 0, 0));
+    let k = put(random, other, 0);
+    let kk = put(random, leaf, k);
+    if !rule_first {
+        rule_stem = put(random, rule, 0);
+    }
+    let second = put(random, rule_stem, kk);
+    if !label_first {
+        label_stem = put(random, label, 0);
+    }
+    let node = put(random, label_stem, second);
+    Labelled {
+        used: table.len() / 2,
+        table,
+        node: node as usize - 1,
+        rule: rule as usize - 1,
+        label: label as usize - 1,
+    }
+}
+
+/// The nodes that make up the form of a labelled tree: Δ(Δt)(Δ(Δf)(KK)) but for t and f.
+fn form(labelled: &Labelled) -> [usize; 8] {
+    let branch = |node: usize, i: usize| labelled.table[2 * node + i] as usize - 1;
+    let root = labelled.node;
+    let (label_stem, second) = (branch(root, 0), branch(root, 1));
+    let (rule_stem, kk) = (branch(second, 0), branch(second, 1));
+    let (leaf, k) = (branch(kk, 0), branch(kk, 1));
+    [
+        root,
+        label_stem,
+        second,
+        rule_stem,
+        kk,
+        leaf,
+        k,
+        branch(k, 0),
+    ]
+}
+
+/// Any sound table and any node; or a labelled tree, which must come apart into the rule and the label it
+/// was made of; or such a tree with one node of its form changed.
+fn unlabel(random: &mut Random, noise: &Noise) -> Call {
+    let mut labelled = match random.below(8) {
+        0 | 1 => {
+            let (memory, used) = memory(random, noise, 5, 5);
+            let node = node(random, used);
+            return unlabel_in(memory, used, node);
+        }
+        2 | 3 => by_label(random, noise),
+        4 => by_read(random, noise),
+        _ => scattered(random),
+    };
+    let known = random.once_in(2);
+    if !known {
+        // Other words at one node of the form, which are sound.
+        let i = *random.pick(&form(&labelled));
+        let branch = |random: &mut Random| random.within(0, i) as u32;
+        let first = branch(random);
+        let second = if first == 0 { 0 } else { branch(random) };
+        let second = if random.once_in(2) { second } else { 0 };
+        labelled.table[2 * i..2 * i + 2].copy_from_slice(&[first, second]);
+    }
+    let mut memory = noise.memory(random, 0, 5, 5);
+    memory.table = labelled.table;
+    let (used, node) = (labelled.used, labelled.node);
+    if known {
+        let mut call = unlabel_in(memory.clone(), used, node);
+        let answer = model::unlabel(&memory.table, used, node);
+        if answer != [0, labelled.rule, used, 0, 0, labelled.label] {
+            call.difference = Some(format!(
+                "of {} labelled with {}: {answer:?} by the model",
+                labelled.rule, labelled.label
+            ));
+        }
+        return call;
+    }
+    let used = spoil(random, &mut memory.table, used);
+    unlabel_in(memory, used, node)
+}
+
+fn unlabel_in(memory: Memory, used: usize, node: usize) -> Call {
+    both(
+        memory,
+        || format!("{node}, {used} nodes in use"),
+        |m| parts_of(lazvorn::unlabel(&m.table, used, node)),
+        |m| model::unlabel(&m.table, used, node),
     )
 }

@@ -1,18 +1,27 @@
 //! What the comparison, the program's test and the benchmark share: packets, rules, texts and rule
-//! texts from a seeded generator, an answer as a list of numbers, and which requests of document 02
-//! hold.
+//! texts from a seeded generator, an answer as a list of numbers or as a program's line, and which
+//! requests of document 02 hold.
 
 pub mod packets;
 pub mod random;
 pub mod texts;
 pub mod trees;
 
-/// What the second evaluator goes by: document 01 and, of document 02, [2]. It tells the uses of each
-/// rule ([5]) whatever holds.
+/// What the second evaluator goes by: document 01 and, of document 02, [2] and [1]. It tells the uses
+/// of each rule ([5]) whatever holds.
 pub const PAPERS: second::Papers = second::Papers {
     default_limit: 100_000,
+    labels: true,
     ..second::DOCUMENT_01
 };
+
+/// What the second evaluator says of a packet's labelled rule, as the program `label_packet` prints it.
+pub fn labelled_line(labelled: &Result<(usize, String), second::Refusal>) -> String {
+    match labelled {
+        Ok((used, text)) => format!("0 0 {used} {text}"),
+        Err(number) => format!("{number} 0 0 -"),
+    }
+}
 
 /// The numbers of an answer from the engine, as the models list them.
 pub fn answer_of(numbers: lazvorn::Numbers) -> model::Answer {
@@ -22,6 +31,18 @@ pub fn answer_of(numbers: lazvorn::Numbers) -> model::Answer {
         numbers.used,
         numbers.steps,
         numbers.digits,
+    ]
+}
+
+/// The same of an answer about a labelled tree, with the label's node.
+pub fn parts_of(parts: lazvorn::Parts) -> model::Parts {
+    [
+        parts.refusal,
+        parts.rule,
+        parts.used,
+        parts.steps,
+        parts.digits,
+        parts.label,
     ]
 }
 

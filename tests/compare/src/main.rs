@@ -1,31 +1,35 @@
-//! Compares the engine with the second evaluator on packets, and with the model on packets, on calls
-//! of each operation, on texts and their beginnings and on rule texts: answers and every lent word and
-//! byte. Rule texts printed from random expressions are held to the expressions too. Prints each
-//! difference, of rule texts the first few, how often each refusal was met, and how many packets used
-//! each rule. The exit status is 1 where anything differs, and where a refusal that packets or rule
-//! texts can meet, or a rule, was met too seldom for the run to mean something.
+//! Compares the engine with the second evaluator on packets, run and labelled, and with the model on
+//! packets, on calls of each operation, on texts and their beginnings and on rule texts: answers and
+//! every lent word and byte. Rule texts printed from random expressions are held to the expressions
+//! too. Prints each difference, of rule texts the first few, how often each refusal was met, how many
+//! packets used each rule, what became of labels, and how often each stage of a labelling lacked room.
+//! The exit status is 1 where anything differs, and where one of these that can be met was met too
+//! seldom for the run to mean something.
 //!
 //! `compare [PACKETS [SEED]]`
 
 mod beginnings;
 mod calls;
+mod labels;
 mod rule_texts;
 mod runs;
 
+use compare::packets::{self, WRONG_LABELS};
 use compare::random::Random;
 use model::Memory;
 
-/// How many packets and how many calls a run compares if nothing else is asked, and from how many
-/// expressions it prints rule texts.
+/// How many runs of packets and how many calls of each operation a run compares if nothing else is
+/// asked, and from how many expressions it prints rule texts.
 const PACKETS: usize = 120_000;
-const CALLS: usize = 200_000;
+const CALLS: usize = 40_000;
 const EXPRESSIONS: usize = 20_000;
 
 /// How many whole texts are cut to beginnings.
 const BEGINNINGS: usize = 20_000;
 
-/// How often a packet must meet each refusal from 4 to 10, and in how many that succeed each rule must
-/// be used.
+/// How often a packet that is run must meet each refusal from 4 to 10, in how many that succeed each
+/// rule must be used, how often each kind of label must be met, and how often a labelling must meet each
+/// refusal and lack each thing that it can.
 const SELDOM: usize = 100;
 
 const RULES: [&str; 5] = ["leaf", "stem", "drop", "spread", "triage"];
@@ -35,7 +39,10 @@ const RULES: [&str; 5] = ["leaf", "stem", "drop", "spread", "triage"];
 const SELDOM_TEXTS: usize = 1_000;
 
 /// How often each refusal was met, and 0 for success.
-pub type Counts = [usize; 11];
+pub type Counts = [usize; 12];
+
+/// The refusals that a labelling can meet after 1.
+const LABELLING: [usize; 6] = [4, 5, 6, 8, 9, 10];
 
 /// Words and bytes to fill lent memory with: small numbers among them, so that words which a call
 /// fails to write may pass for branches.
@@ -118,25 +125,58 @@ fn compare_texts(random: &mut Random, noise: &Noise) -> usize {
     differences
 }
 
-/// Compares runs of packets; how many differ, and how many refusals and rules were met too seldom.
-fn compare_runs(random: &mut Random, noise: &Noise, packets: usize) -> usize {
-    let outcome = runs::compare(random, noise, packets);
-    print("Run", &outcome.counts, 1..=10);
-    let using = RULES.iter().zip(outcome.using);
-    let shown: Vec<String> = using
-        .clone()
-        .map(|(rule, n)| format!("{rule}: {n}"))
-        .collect();
-    println!("{:<10} rules used by {}", "", shown.join(", "));
-    let refusals = outcome.counts.iter().enumerate().skip(4);
-    let met = refusals.map(|(number, count)| (format!("refusal {number}"), *count));
-    let mut differences = outcome.differences;
-    for (what, count) in met.chain(using.map(|(rule, n)| (format!("the rule {rule}"), n))) {
-        if count < SELDOM {
-            println!("{what} was met {count} times: too seldom");
-            differences += 1;
-        }
+/// What was met, and how often.
+type Met = Vec<(String, usize)>;
+
+/// Prints how often each of these was met, after a word; how many of them were met too seldom.
+fn print_met(word: &str, met: &Met) -> usize {
+    let shown: Vec<String> = met.iter().map(|(what, n)| format!("{what}: {n}")).collect();
+    println!("{:<10} {word} {}", "", shown.join(", "));
+    let seldom = met.iter().filter(|(_, count)| *count < SELDOM);
+    let seldom =
+        seldom.inspect(|(what, n)| println!("{word} {what} was met {n} times: too seldom"));
+    seldom.count()
+}
+
+/// How many of these refusals were met too seldom.
+fn seldom(counts: &Counts, refusals: impl IntoIterator<Item = usize>) -> usize {
+    let seldom = refusals
+        .into_iter()
+        .filter(|number| counts[*number] < SELDOM);
+    let seldom = seldom.inspect(|number| {
+        println!(
+            "refusal {number} was met {} times: too seldom",
+            counts[*number]
+        );
+    });
+    seldom.count()
+}
+
+/// Compares packets, run and labelled, until so many runs are compared; how many differ, and how many
+/// refusals, rules and labels were met too seldom.
+fn compare_packets(random: &mut Random, noise: &Noise, packets: usize) -> usize {
+    let mut runs = runs::Compared::default();
+    let mut labels = labels::Compared::default();
+    while runs.packets() < packets {
+        let case = packets::case(random);
+        runs.compare(random, noise, &case);
+        labels.compare(random, noise, &case);
     }
+    let mut differences = runs.differences + labels.differences;
+    print("Run", &runs.counts, 1..=10);
+    differences += seldom(&runs.counts, 4..=10);
+    let using = RULES.iter().zip(runs.using);
+    let using = using.map(|(rule, n)| (rule.to_string(), n)).collect();
+    differences += print_met("rules used by", &using);
+    let wrong = WRONG_LABELS.iter().zip(runs.wrong_labels);
+    let mut met = vec![("passed over".to_string(), runs.passed_over)];
+    met.extend(wrong.map(|(label, n)| (format!("{} {label:?}", label.refusal()), n)));
+    differences += print_met("labels", &met);
+    print("Labelled", &labels.counts, [1].into_iter().chain(LABELLING));
+    differences += seldom(&labels.counts, [0].into_iter().chain(LABELLING));
+    let lacked = labels::LACKS.iter().zip(labels.lacked);
+    let lacked = lacked.map(|((stage, number), n)| (format!("{stage:?} {number}"), n));
+    differences += print_met("refused by", &lacked.collect());
     differences
 }
 
@@ -149,10 +189,10 @@ fn compare() -> bool {
     let mut random = Random::new(words.get(1).copied().unwrap_or(20_261_115));
     let noise = Noise::new(&mut random);
 
-    let mut differences = compare_runs(&mut random, &noise, packets);
+    let mut differences = compare_packets(&mut random, &noise, packets);
     for operation in calls::OPERATIONS {
-        let (counts, more) = calls::compare(&mut random, &noise, operation, CALLS / 5);
-        print(operation.name, &counts, 1..=10);
+        let (counts, more) = calls::compare(&mut random, &noise, operation, CALLS);
+        print(operation.name, &counts, 1..=11);
         for number in operation.refusals {
             if counts[*number] == 0 {
                 println!("{}: refusal {number} was never met", operation.name);

@@ -1,5 +1,6 @@
 //! Packets and the memory that they are run in: valid, damaged, too long, endless and sharing ones,
-//! in the program's room, in little room and at the borders of the room that a packet needs.
+//! with labels and without, in the program's room, in little room and at the borders of the room that
+//! a packet needs.
 
 use crate::random::Random;
 use crate::trees;
@@ -10,6 +11,49 @@ pub struct Parts {
     pub rule: Vec<u8>,
     pub arguments: Vec<Vec<u8>>,
     pub limit: Option<u32>,
+    pub label: Option<Vec<u8>>,
+}
+
+/// What the maker of a packet did about its label.
+#[derive(Clone, Copy, Debug, PartialEq, Eq)]
+pub enum Label {
+    /// Nothing, or nothing that is known.
+    Unknown,
+    /// A whole text in its place.
+    Whole,
+    /// A text that is damaged, and most often not whole.
+    Broken,
+    /// A text of no bytes.
+    Empty,
+    /// A whole text before another field: the step limit, or any.
+    Early,
+    /// Two whole texts.
+    Twice,
+    /// A whole text with another field or bytes after it.
+    Followed,
+    /// A whole text that makes the packet longer than 16,384 bytes.
+    TooLong,
+}
+
+/// The labels that a packet is refused for.
+pub const WRONG_LABELS: [Label; 6] = [
+    Label::Broken,
+    Label::Empty,
+    Label::Early,
+    Label::Twice,
+    Label::Followed,
+    Label::TooLong,
+];
+
+impl Label {
+    /// What a packet is refused with if nothing else is wrong with it, 0 for nothing.
+    pub fn refusal(self) -> usize {
+        match self {
+            Label::Unknown | Label::Whole => 0,
+            Label::Broken | Label::Empty => 4,
+            Label::Early | Label::Twice | Label::Followed | Label::TooLong => 6,
+        }
+    }
 }
 
 /// Lengths of what is lent: words of the table, words of the stack, out bytes.
@@ -40,6 +84,23 @@ pub struct Case {
     pub room: Room,
     /// The parts of the packet, where it was made of some and not damaged.
     pub parts: Option<Parts>,
+    pub label: Label,
+}
+
+impl Case {
+    /// A packet of these parts.
+    pub fn of(parts: Parts, room: Room) -> Self {
+        let label = match &parts.label {
+            Some(text) if model::missing(text) == Some(0) => Label::Whole,
+            _ => Label::Unknown,
+        };
+        Case {
+            packet: parts.packet(),
+            room,
+            parts: Some(parts),
+            label,
+        }
+    }
 }
 
 fn add_field(packet: &mut Vec<u8>, tag: u8, value: &[u8]) {
@@ -48,17 +109,36 @@ fn add_field(packet: &mut Vec<u8>, tag: u8, value: &[u8]) {
     packet.extend(value);
 }
 
+/// A field's tag and value.
+type Field = (u8, Vec<u8>);
+
+fn packet_of(fields: &[Field]) -> Vec<u8> {
+    let mut packet = Vec::new();
+    for (tag, value) in fields {
+        add_field(&mut packet, *tag, value);
+    }
+    packet
+}
+
 impl Parts {
+    fn fields(&self) -> Vec<Field> {
+        let mut fields = vec![(1, self.rule.clone())];
+        fields.extend(self.arguments.iter().map(|text| (2, text.clone())));
+        fields.extend(self.limit.map(|limit| (3, limit.to_be_bytes().to_vec())));
+        fields.extend(self.label.clone().map(|text| (4, text)));
+        fields
+    }
+
     pub fn packet(&self) -> Vec<u8> {
-        let mut packet = Vec::new();
-        add_field(&mut packet, 1, &self.rule);
-        for text in &self.arguments {
-            add_field(&mut packet, 2, text);
-        }
-        if let Some(limit) = self.limit {
-            add_field(&mut packet, 3, &limit.to_be_bytes());
-        }
-        packet
+        packet_of(&self.fields())
+    }
+
+    /// A first argument that makes the packet so many bytes long. At most one other is left.
+    fn lengthen(&mut self, bytes: usize) {
+        self.arguments.truncate(1);
+        self.arguments.insert(0, Vec::new());
+        let rest = bytes - self.packet().len();
+        self.arguments[0] = [vec![b'1'; rest - 1], vec![b'0']].concat();
     }
 }
 
@@ -70,6 +150,19 @@ fn limit(random: &mut Random) -> Option<u32> {
         30..=37 => Some(random.below(3_000) as u32),
         38 => Some(random.within(3_000, 30_000) as u32),
         _ => Some(*random.pick(&[0, 999_999, 1_000_000])),
+    }
+}
+
+/// A label's whole text, or none. Now and then it is deep in its first branches, so that Read wants
+/// more frames than Translate.
+fn label(random: &mut Random) -> Option<Vec<u8>> {
+    match random.below(8) {
+        0..=3 => None,
+        4 => {
+            let depth = random.below(60);
+            Some([vec![b'2'; depth], vec![b'0'; depth + 1]].concat())
+        }
+        _ => Some(trees::text(random)),
     }
 }
 
@@ -85,6 +178,7 @@ fn valid(random: &mut Random) -> Parts {
         rule,
         arguments,
         limit: limit(random),
+        label: label(random),
     }
 }
 
@@ -101,6 +195,7 @@ fn endless(random: &mut Random) -> Parts {
         rule,
         arguments: vec![argument],
         limit: limit(random),
+        label: label(random),
     }
 }
 
@@ -121,27 +216,69 @@ fn sharing(random: &mut Random) -> Parts {
         rule: times(random),
         arguments,
         limit: random.once_in(4).then_some(50_000),
+        label: label(random),
     }
 }
 
 /// Well-formed fields with values at the border of what a packet, a rule or a text may be.
 fn large(random: &mut Random) -> Parts {
     let mut parts = valid(random);
-    match random.below(3) {
+    match random.below(4) {
         0 => parts.rule = trees::large_rule(random),
-        1 => {
-            // The packet's length is just below, at or above 16,384.
-            parts.arguments.truncate(1);
-            parts.arguments.insert(0, Vec::new());
-            let rest = random.near(16_384) - parts.packet().len();
-            parts.arguments[0] = [vec![b'1'; rest - 1], vec![b'0']].concat();
-        }
-        _ => {
+        // The packet's length is just below, at or above 16,384.
+        1 => parts.lengthen(random.near(16_384)),
+        2 => {
             let depth = random.within(1, 5_000);
             parts.arguments = vec![trees::deep(random, depth)];
         }
+        _ => {
+            let depth = random.within(1, 5_000);
+            parts.label = Some(trees::deep(random, depth));
+        }
     }
     parts
+}
+
+/// A packet that is refused for its label, unless its rule, which is wrong now and then, is refused
+/// first.
+fn wrong_label(random: &mut Random) -> (Vec<u8>, Label) {
+    let mut parts = valid(random);
+    if random.once_in(8) {
+        parts.rule = trees::wrong_rule(random);
+    }
+    let text = trees::text(random);
+    let wrong = *random.pick(&WRONG_LABELS);
+    let mut after = Vec::new();
+    match wrong {
+        Label::Broken => parts.label = Some(trees::wrong_text(random)),
+        Label::Empty => parts.label = Some(Vec::new()),
+        Label::TooLong => {
+            // Without its label the packet is not too long.
+            let more = random.within(1, 3 + text.len());
+            parts.label = Some(text);
+            parts.lengthen(16_384 + more);
+        }
+        Label::Twice => {
+            parts.label = Some(text);
+            add_field(&mut after, 4, &trees::text(random));
+        }
+        Label::Followed => {
+            parts.label = Some(text);
+            add_field(&mut after, *random.pick(&[0, 1, 2, 5, 255]), b"0");
+            if random.once_in(3) {
+                after.truncate(random.within(1, 2));
+            }
+        }
+        _ => {
+            // Before the step limit, or before any other field.
+            parts.limit.get_or_insert(3_000);
+            parts.label = None;
+            let mut fields = parts.fields();
+            fields.insert(random.below(fields.len()), (4, text));
+            return (packet_of(&fields), Label::Early);
+        }
+    }
+    ([parts.packet(), after].concat(), wrong)
 }
 
 /// Bytes that begin as a packet, with a byte or a field changed.
@@ -166,12 +303,17 @@ fn damaged(random: &mut Random) -> Vec<u8> {
         7 => {
             // A step limit of another length, or above the greatest.
             let value = *random.pick(&[&[0, 1, 0][..], &[0, 0, 0, 1, 0], &[0, 15, 66, 65], &[]]);
+            let label = parts.label;
             packet = Parts {
                 limit: None,
+                label: None,
                 ..parts
             }
             .packet();
             add_field(&mut packet, 3, value);
+            if let Some(text) = label {
+                add_field(&mut packet, 4, &text);
+            }
         }
         8 => {
             let tag = *random.pick(&[0, 1, 2, 3, 4, 255]);
@@ -237,34 +379,38 @@ fn room(random: &mut Random) -> Room {
 /// The next case.
 pub fn case(random: &mut Random) -> Case {
     let parts = match random.below(100) {
-        0..=48 => Some(valid(random)),
-        49..=54 => Some(endless(random)),
-        55..=64 => Some(sharing(random)),
-        65..=67 => Some(large(random)),
-        68..=75 => {
+        0..=44 => valid(random),
+        45..=50 => endless(random),
+        51..=60 => sharing(random),
+        61..=63 => large(random),
+        64..=71 => {
             let mut parts = valid(random);
             parts.rule = trees::wrong_rule(random);
-            Some(parts)
+            parts
         }
-        76..=85 => {
+        72..=79 => {
             let mut parts = valid(random);
             let wrong = trees::wrong_text(random);
             let at = random.below(parts.arguments.len() + 1);
             if parts.arguments.len() < 8 {
                 parts.arguments.insert(at, wrong);
             }
-            Some(parts)
+            parts
         }
-        _ => None,
+        number => {
+            let (packet, label) = match number {
+                80..=87 => wrong_label(random),
+                _ => (damaged(random), Label::Unknown),
+            };
+            return Case {
+                packet,
+                room: room(random),
+                parts: None,
+                label,
+            };
+        }
     };
-    Case {
-        packet: match &parts {
-            Some(parts) => parts.packet(),
-            None => damaged(random),
-        },
-        room: room(random),
-        parts,
-    }
+    Case::of(parts, room(random))
 }
 
 /// A case that succeeded with these numbers, run again with just enough of one thing, one too few of
@@ -278,7 +424,7 @@ pub fn at_border(
 ) -> Case {
     let mut case = case.clone();
     match random.below(3) {
-        0 => case.room.table = 2 * random.near(used) + random.below(2),
+        0 => case.room.table = nodes_near(random, used),
         1 => case.room.out = random.near(digits),
         _ => {
             if let Some(parts) = &mut case.parts {
@@ -288,4 +434,25 @@ pub fn at_border(
         }
     }
     case
+}
+
+/// A case whose labelling succeeded with these numbers, with just enough nodes for Translate, for the
+/// label's Read or for Label, or just enough out bytes for Write; one too few of it or one more.
+pub fn at_label_border(random: &mut Random, case: &Case, used: usize, digits: usize) -> Case {
+    let mut case = case.clone();
+    let text = case.parts.as_ref().and_then(|parts| parts.label.as_ref());
+    let read = used - 7;
+    let translated = read - text.map_or(0, |text| text.len());
+    match random.below(4) {
+        0 => case.room.table = nodes_near(random, translated),
+        1 => case.room.table = nodes_near(random, read),
+        2 => case.room.table = nodes_near(random, used),
+        _ => case.room.out = random.near(digits),
+    }
+    case
+}
+
+/// Words for so many nodes, one less or one more, and at times a word that is no node's.
+fn nodes_near(random: &mut Random, nodes: usize) -> usize {
+    2 * random.near(nodes) + random.below(2)
 }

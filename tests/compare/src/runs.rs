@@ -1,7 +1,7 @@
-//! Run beside the second evaluator and the model.
+//! Run beside the second evaluator and the model, and beside itself on the packet without its label.
 
 use crate::{difference, hexadecimal, Counts, Noise};
-use compare::packets::{self, Case};
+use compare::packets::{self, Case, Label, Parts, Room, WRONG_LABELS};
 use compare::random::Random;
 use compare::{counted_of, PAPERS};
 use model::{Counted, Memory};
@@ -9,35 +9,46 @@ use model::{Counted, Memory};
 /// The line that the program would print for a run, and the uses of each rule.
 type Told = (String, [usize; 5]);
 
-fn told(answer: &Counted, out: &[u8]) -> Told {
-    let [refusal, _, used, steps, digits, uses @ ..] = *answer;
+/// The line that a program would print for an answer: refusal, steps, used and text.
+pub fn line(answer: &[usize], out: &[u8]) -> String {
+    let (refusal, used, steps, digits) = (answer[0], answer[2], answer[3], answer[4]);
     let text = if refusal == 0 {
         String::from_utf8_lossy(&out[..digits]).into_owned()
     } else {
         "-".to_string()
     };
-    (format!("{refusal} {steps} {used} {text}"), uses)
+    format!("{refusal} {steps} {used} {text}")
 }
 
-fn second_told(case: &Case) -> Told {
-    let room = case.room;
-    if room.table > 131_072 || room.stack > 65_536 || room.out > 65_535 {
-        return ("1 0 0 -".to_string(), [0; 5]);
-    }
-    let room = second::Room {
+fn told(answer: &Counted, out: &[u8]) -> Told {
+    let [_, _, _, _, _, uses @ ..] = *answer;
+    (line(answer, out), uses)
+}
+
+/// The room that the second evaluator is told of, if no length is refused with 1.
+pub fn second_room(room: Room) -> Option<second::Room> {
+    let fits = room.table <= 131_072 && room.stack <= 65_536 && room.out <= 65_535;
+    fits.then_some(second::Room {
         nodes: room.table / 2,
         frames: room.stack / 3,
         out: room.out,
+    })
+}
+
+fn second_told(case: &Case) -> Told {
+    let Some(room) = second_room(case.room) else {
+        return ("1 0 0 -".to_string(), [0; 5]);
     };
     let ran = second::run(&case.packet, room, PAPERS);
     let uses = ran.as_ref().map_or([0; 5], |outcome| outcome.uses);
     (second::line(&ran), uses.map(|count| count as usize))
 }
 
-/// Whether memory is as the paper says that every refusal and every success leaves it. This knows of
-/// the answer alone, and the model, which fixes every word, is compared besides.
-fn kept(before: &Memory, after: &Memory, answer: &Counted) -> bool {
-    let [refusal, _, used, _, digits, ..] = *answer;
+/// Whether memory is as the paper says that every refusal and every success leaves it, where the table
+/// was taken as empty. This knows of the answer alone, and the model, which fixes every word, is
+/// compared besides.
+pub fn kept(before: &Memory, after: &Memory, answer: &[usize]) -> bool {
+    let (refusal, used, digits) = (answer[0], answer[2], answer[4]);
     let zero = after.stack.iter().all(|word| *word == 0);
     match refusal {
         0 => {
@@ -55,18 +66,56 @@ fn kept(before: &Memory, after: &Memory, answer: &Counted) -> bool {
     }
 }
 
+fn run(memory: &mut Memory, packet: &[u8]) -> Counted {
+    counted_of(lazvorn::run(
+        &mut memory.table,
+        &mut memory.stack,
+        &mut memory.out,
+        packet,
+    ))
+}
+
+/// The packet without its label, where "that text is whole and the packet keeps within 16,384 bytes".
+fn without_label(case: &Case) -> Option<Vec<u8>> {
+    let parts = case.parts.as_ref()?;
+    let passed_over = case.label == Label::Whole && case.packet.len() <= 16_384;
+    passed_over.then(|| {
+        Parts {
+            label: None,
+            ..parts.clone()
+        }
+        .packet()
+    })
+}
+
 /// What came of packets: how often each refusal was met, and 0 for success; in how many of those that
-/// succeeded each rule was used; and how many differ.
+/// succeeded each rule was used; in how many the label was passed over, and in how many each kind of
+/// wrong label met its refusal; and how many differ.
 #[derive(Default)]
 pub struct Compared {
     pub counts: Counts,
     pub using: [usize; 5],
+    pub passed_over: usize,
+    pub wrong_labels: [usize; WRONG_LABELS.len()],
     pub differences: usize,
 }
 
 impl Compared {
-    fn packets(&self) -> usize {
+    pub fn packets(&self) -> usize {
         self.counts.iter().sum()
+    }
+
+    fn count(&mut self, case: &Case, modelled: &Counted) {
+        let [refusal, _, _, _, _, uses @ ..] = *modelled;
+        self.counts[refusal] += 1;
+        self.using = std::array::from_fn(|rule| self.using[rule] + usize::from(uses[rule] > 0));
+        if case.label == Label::Whole && refusal == 0 {
+            self.passed_over += 1;
+        }
+        let wrong = WRONG_LABELS.iter().position(|label| *label == case.label);
+        if let Some(kind) = wrong.filter(|_| case.label.refusal() == refusal) {
+            self.wrong_labels[kind] += 1;
+        }
     }
 
     /// Runs a case and adds what came of it. Gives the engine's answer.
@@ -74,17 +123,10 @@ impl Compared {
         let room = case.room;
         let before = noise.memory(random, room.table, room.stack, room.out);
         let mut engine = before.clone();
-        let answer = counted_of(lazvorn::run(
-            &mut engine.table,
-            &mut engine.stack,
-            &mut engine.out,
-            &case.packet,
-        ));
+        let answer = run(&mut engine, &case.packet);
         let mut expected = before.clone();
         let modelled = model::run(&mut expected, &case.packet);
-        let [refusal, _, _, _, _, uses @ ..] = modelled;
-        self.counts[refusal] += 1;
-        self.using = std::array::from_fn(|rule| self.using[rule] + usize::from(uses[rule] > 0));
+        self.count(case, &modelled);
 
         let mut wrong = Vec::new();
         let (ours, theirs) = (told(&answer, &engine.out), second_told(case));
@@ -98,6 +140,12 @@ impl Compared {
         if !kept(&before, &engine, &answer) {
             wrong.push("memory is not as the answer's number says".to_string());
         }
+        if let Some(packet) = without_label(case) {
+            let mut memory = before.clone();
+            if run(&mut memory, &packet) != answer || memory != engine {
+                wrong.push("the packet without its label has another outcome".to_string());
+            }
+        }
         if !wrong.is_empty() {
             println!("packet {}\nin {room:?}", hexadecimal(&case.packet));
             println!("{}", wrong.join("\n"));
@@ -105,38 +153,34 @@ impl Compared {
         }
         answer
     }
-}
 
-/// Runs so many packets, or a few more.
-pub fn compare(random: &mut Random, noise: &Noise, packets: usize) -> Compared {
-    let mut compared = Compared::default();
-    while compared.packets() < packets {
-        let case = packets::case(random);
-        let answer = compared.check(random, noise, &case);
+    /// Compares on a case, and where it succeeds now and then at the borders of the room it needs.
+    pub fn compare(&mut self, random: &mut Random, noise: &Noise, case: &Case) {
+        let answer = self.check(random, noise, case);
         let [refusal, _, used, steps, digits, ..] = answer;
         if refusal != 0 || case.parts.is_none() {
-            continue;
+            return;
         }
         for _ in 0..random.below(4) {
-            let case = packets::at_border(random, &case, used, steps, digits);
-            compared.check(random, noise, &case);
+            let case = packets::at_border(random, case, used, steps, digits);
+            self.check(random, noise, &case);
         }
         if random.once_in(8) {
-            let case = with_few_frames(random, &case);
-            compared.check(random, noise, &case);
+            let enough = |case: &Case| second_told(case).0.starts_with("0 ");
+            let case = with_few_frames(random, case, enough);
+            self.check(random, noise, &case);
         }
     }
-    compared
 }
 
 /// A case that succeeds, with just enough frames by the second evaluator, or one too few.
-fn with_few_frames(random: &mut Random, case: &Case) -> Case {
+pub fn with_few_frames(random: &mut Random, case: &Case, succeeds: impl Fn(&Case) -> bool) -> Case {
     let mut case = case.clone();
     let (mut few, mut enough) = (0, case.room.stack / 3);
     while few < enough {
         let middle = (few + enough) / 2;
         case.room.stack = 3 * middle;
-        if second_told(&case).0.starts_with("0 ") {
+        if succeeds(&case) {
             enough = middle;
         } else {
             few = middle + 1;
