@@ -16,6 +16,7 @@ use crate::places::PLACES;
 use crate::{compared, head, rows, text, workloads, Memory, ROUNDS};
 use compare::packets::{Case, Parts, Room, MOST, PROGRAM};
 use compare::random::Random;
+use compare::PAPERS;
 use std::cell::RefCell;
 use std::hint::black_box;
 use std::path::Path;
@@ -69,14 +70,6 @@ fn outcome(runs: &[Run], case: &Case) -> Answer {
     first.0
 }
 
-fn case(parts: Parts, room: Room) -> Case {
-    Case {
-        packet: parts.packet(),
-        room,
-        parts: Some(parts),
-    }
-}
-
 /// The rule λx. x on eight arguments of so many digits, of which the first drops the others: few
 /// steps, and eighteen stages over ever more nodes.
 fn eight(digits: usize, room: Room) -> Case {
@@ -90,7 +83,7 @@ fn eight(digits: usize, room: Room) -> Case {
         limit: None,
         label: None,
     };
-    case(parts, room)
+    Case::of(parts, room)
 }
 
 /// Packets that succeed, one a row.
@@ -104,7 +97,7 @@ fn single() -> [(&'static str, Case); 4] {
     [
         (
             "the paper's packet, the program's room",
-            case(paper, PROGRAM),
+            Case::of(paper, PROGRAM),
         ),
         (
             "eight arguments of 1,000 digits, the program's room",
@@ -116,19 +109,26 @@ fn single() -> [(&'static str, Case); 4] {
         ),
         (
             "one argument, 5 to the 5th stems, the most room",
-            case(workloads::stems(), MOST),
+            Case::of(workloads::stems(), MOST),
         ),
     ]
 }
 
-/// A case whose packet names a step limit, 10,000 where it named none: builds differ in the limit that
-/// they take then. Damaged packets stay as they are.
-fn limited(mut case: Case) -> Case {
-    if let Some(parts) = &mut case.parts {
+/// A case that builds from before [2] and [1] answer alike: its packet names a step limit, 10,000 where
+/// it named none, and has no label. Damaged packets stay as they are, and are left out where they are
+/// broken to some builds for their label alone.
+fn older(case: Case) -> Option<Case> {
+    if let Some(mut parts) = case.parts {
         parts.limit.get_or_insert(10_000);
-        case.packet = parts.packet();
+        parts.label = None;
+        return Some(Case::of(parts, case.room));
     }
-    case
+    let without = second::Papers {
+        labels: false,
+        ..PAPERS
+    };
+    let refusal = |papers| second::run(&case.packet, second::PROGRAM, papers).err();
+    (refusal(PAPERS) == refusal(without)).then_some(case)
 }
 
 /// Measures cases in both builds. A run of a contender is a call of each at each place of its code.
@@ -167,11 +167,14 @@ pub fn beside(archive: &Path) {
         let what = format!("{what}: {steps} steps, {used} nodes");
         row(&what, builds, &[case], ROUNDS);
     }
-    let cases: Vec<Case> = compared().into_iter().map(limited).collect();
+    let cases: Vec<Case> = compared().into_iter().filter_map(older).collect();
     let succeeds = |case: &&Case| outcome(&all, case)[0] == 0;
     let good: Vec<Case> = cases.iter().filter(succeeds).cloned().collect();
-    let what = "2,000 packets as they are compared, each in its room";
-    row(what, builds, &cases, ROUNDS / 8);
+    let what = format!(
+        "{} packets as they are compared, each in its room",
+        cases.len()
+    );
+    row(&what, builds, &cases, ROUNDS / 8);
     let what = format!("the {} of them that succeed", good.len());
     row(&what, builds, &good, ROUNDS / 8);
 }

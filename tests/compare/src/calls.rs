@@ -411,7 +411,7 @@ fn by_label(random: &mut Random, noise: &Noise) -> Labelled {
     let mut table = noise.memory(random, words, 0, 0).table;
     let used = random.within(1, words / 2);
     sow(random, &mut table, used);
-    table.resize((words).max(2 * used + 14), 7);
+    table.resize(words.max(2 * used + 14), 7);
     let (rule, label) = (random.below(used), random.below(used));
     let made = lazvorn::label(&mut table, used, rule, label);
     Labelled {
@@ -445,16 +445,14 @@ fn by_read(random: &mut Random, noise: &Noise) -> Labelled {
 /// A labelled tree whose nodes were made in some order, with others between them, and that shares nodes
 /// with itself and with these.
 fn scattered(random: &mut Random) -> Labelled {
-    let mut table: Vec<u32> = Vec::new();
     let used = random.within(1, 6);
-    table.resize(2 * used, 0);
+    let mut table = vec![0; 2 * used];
     sow(random, &mut table, used);
-    // The word of a node with these words: one that is there, or a new one.
+    // The word of a node with these words, one that is there or a new one, after another at times.
     let mut put = |random: &mut Random, first: u32, second: u32| {
-        let nodes = table.len() as u32 / 2;
         if random.once_in(3) {
-            let other = random.within(0, nodes as usize) as u32;
-            table.extend([other, if random.once_in(2) { 0 } else { other }]);
+            let any = random.within(0, table.len() / 2) as u32;
+            table.extend([any, if random.once_in(2) { any } else { 0 }]);
         }
         let there = table.chunks(2).position(|node| node == [first, second]);
         match there.filter(|_| random.once_in(2)) {
@@ -465,35 +463,27 @@ fn scattered(random: &mut Random) -> Labelled {
             }
         }
     };
-    let any = |random: &mut Random| random.within(1, used) as u32;
-    let (rule, label) = (any(random), any(random));
-    let label_first = random.once_in(2);
-    let mut label_stem = 0;
-    if label_first {
-        label_stem = put(random, label, 0);
+    let parts = [(); 2].map(|()| random.within(1, used) as u32);
+    let early = [(); 2].map(|()| random.once_in(2));
+    let mut stems = [0; 2];
+    for i in (0..2).filter(|i| early[*i]) {
+        stems[i] = put(random, parts[i], 0);
     }
-    let rule_first = random.once_in(2);
-    let mut rule_stem = 0;
-    if rule_first {
-        rule_stem = put(random, rule, 0);
+    let leaves = [(); 2].map(|()| put(random, 0, 0));
+    let k = put(random, leaves[0], 0);
+    let kk = put(random, leaves[1], k);
+    for i in (0..2).filter(|i| !early[*i]) {
+        stems[i] = put(random, parts[i], 0);
     }
-    let (leaf, other) = (put(random, 0, 0), put(random, 0, 0));
-    let k = put(random, other, 0);
-    let kk = put(random, leaf, k);
-    if !rule_first {
-        rule_stem = put(random, rule, 0);
-    }
-    let second = put(random, rule_stem, kk);
-    if !label_first {
-        label_stem = put(random, label, 0);
-    }
-    let node = put(random, label_stem, second);
+    let second = put(random, stems[0], kk);
+    let node = put(random, stems[1], second);
+    let [node, rule, label] = [node, parts[0], parts[1]].map(|word| word as usize - 1);
     Labelled {
         used: table.len() / 2,
         table,
-        node: node as usize - 1,
-        rule: rule as usize - 1,
-        label: label as usize - 1,
+        node,
+        rule,
+        label,
     }
 }
 

@@ -159,7 +159,7 @@ fn label(random: &mut Random) -> Option<Vec<u8>> {
     match random.below(8) {
         0..=3 => None,
         4 => {
-            let depth = random.below(60);
+            let depth = random.below(200);
             Some([vec![b'2'; depth], vec![b'0'; depth + 1]].concat())
         }
         _ => Some(trees::text(random)),
