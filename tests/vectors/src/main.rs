@@ -25,14 +25,21 @@
 //!                                 nodes, text. A tree is a text, or a rule, x and its bytes
 //! l NODES TREE TREE               Label of the first tree with the second, with so many nodes free:
 //!                                 0, node, used, text
+//! n TREE                          `unlabel` of a tree's node: 0, the nodes of rule and label, and the
+//!                                 texts of these
+//! d TREE TREE                     Label of the first tree with the second, then `unlabel`: what n
+//!                                 prints
 //! u LETTER USED A B WORD ..       in a table of these words, Read (r) of 0, Write (w) of node A,
 //!                                 Translate (t) of 02 00, Apply (a) of A to B under the limit 100,
-//!                                 Label (l) of A with B: what the command of that letter prints
+//!                                 Label (l) of A with B, `unlabel` (n) of A: what the command of that
+//!                                 letter prints
 //! p BYTES                         Run of a packet with the room that the program lends: the
 //!                                 program's line
+//! k BYTES                         `label_packet` with this room: the line of the program of this name
+//! o NODES FRAMES OUT BYTES        `label_packet` with so much room: 0, used, digits, text
 //! ```
 
-use lazvorn::Numbers;
+use lazvorn::{Numbers, Parts};
 
 const SCRIPT: &str = include_str!("../script");
 const EXPECTED: &str = include_str!("../expected");
@@ -167,6 +174,15 @@ impl Memory {
         Ok(format!("0 {digits} {}", self.shown(digits)))
     }
 
+    /// The line of `unlabel`.
+    fn unlabelled(&mut self, parts: Parts) -> Answer<String> {
+        if parts.refusal != 0 {
+            return Err(Early::Refused(parts.refusal));
+        }
+        let [rule, label] = [parts.rule, parts.label].map(|node| self.text(parts.used, node));
+        Ok(format!("0 {} {} {rule} {label}", parts.rule, parts.label))
+    }
+
     /// The line of Apply, where `before` nodes were in use.
     fn applied(&mut self, before: usize, applied: Numbers) -> Answer<String> {
         let applied = accepted(applied)?;
@@ -248,6 +264,20 @@ fn label_command(m: &mut Memory, free: &str, rule: &str, label: &str) -> Answer<
     m.made(made)
 }
 
+fn unlabel_command(m: &mut Memory, tree: &str) -> Answer<String> {
+    let read = m.load(0, tree)?;
+    let parts = lazvorn::unlabel(&m.table[..TABLE], read.used, read.node);
+    m.unlabelled(parts)
+}
+
+fn both_ways_command(m: &mut Memory, rule: &str, label: &str) -> Answer<String> {
+    let (nodes, used) = m.load_all(&[rule, label])?;
+    let table = &mut m.table[..TABLE];
+    let made = accepted(lazvorn::label(table, used, nodes[0], nodes[1]))?;
+    let parts = lazvorn::unlabel(table, made.used, made.node);
+    m.unlabelled(parts)
+}
+
 fn words_command(m: &mut Memory, letter: &str, rest: &[&str]) -> Answer<String> {
     let [used, a, b, words @ ..] = rest else {
         return Err(Early::NoCommand);
@@ -256,6 +286,10 @@ fn words_command(m: &mut Memory, letter: &str, rest: &[&str]) -> Answer<String> 
     let table = lend(&mut m.table, words.len())?;
     for (word, field) in table.iter_mut().zip(words) {
         *word = field.parse().map_err(|_| Early::NoCommand)?;
+    }
+    if letter == "n" {
+        let parts = lazvorn::unlabel(table, used, a);
+        return m.unlabelled(parts);
     }
     let (stack, out) = (&mut m.stack[..STACK], &mut m.out[..OUT]);
     let answer = match letter {
@@ -273,14 +307,35 @@ fn words_command(m: &mut Memory, letter: &str, rest: &[&str]) -> Answer<String> 
     }
 }
 
+/// The program's line of an answer about a packet.
+fn line(m: &Memory, answer: Numbers) -> String {
+    let text = match answer.refusal {
+        0 => m.shown(answer.digits),
+        _ => "-".to_string(),
+    };
+    format!("{} {} {} {text}", answer.refusal, answer.steps, answer.used)
+}
+
 fn packet_command(m: &mut Memory, packet: &[u8]) -> String {
     let (table, stack) = (&mut m.table[..16_384], &mut m.stack[..12_288]);
     let ran = lazvorn::run(table, stack, &mut m.out[..16_384], packet);
-    let text = match ran.refusal {
-        0 => m.shown(ran.digits),
-        _ => "-".to_string(),
-    };
-    format!("{} {} {} {text}", ran.refusal, ran.steps, ran.used)
+    line(m, ran.numbers())
+}
+
+fn label_packet_command(m: &mut Memory, packet: &[u8]) -> String {
+    let (table, stack) = (&mut m.table[..16_384], &mut m.stack[..12_288]);
+    let labelled = lazvorn::label_packet(table, stack, &mut m.out[..16_384], packet);
+    line(m, labelled)
+}
+
+fn office_command(m: &mut Memory, room: [&str; 3], packet: &[u8]) -> Answer<String> {
+    let [nodes, frames, out] = [number(room[0])?, number(room[1])?, number(room[2])?];
+    let table = lend(&mut m.table, 2 * nodes)?;
+    let stack = lend(&mut m.stack, 3 * frames)?;
+    let out = lend(&mut m.out, out)?;
+    let labelled = accepted(lazvorn::label_packet(table, stack, out, packet))?;
+    let text = m.shown(labelled.digits);
+    Ok(format!("0 {} {} {text}", labelled.used, labelled.digits))
 }
 
 fn command(m: &mut Memory, fields: &[&str]) -> Answer<String> {
@@ -305,8 +360,14 @@ fn command(m: &mut Memory, fields: &[&str]) -> Answer<String> {
             apply_command(m, [nodes, frames, limit], trees)
         }
         ["l", nodes, rule, label] => label_command(m, nodes, rule, label),
+        ["n", tree] => unlabel_command(m, tree),
+        ["d", rule, label] => both_ways_command(m, rule, label),
         ["u", letter, ref rest @ ..] => words_command(m, letter, rest),
         ["p", ref bytes @ ..] => Ok(packet_command(m, &gathered(bytes)?)),
+        ["k", ref bytes @ ..] => Ok(label_packet_command(m, &gathered(bytes)?)),
+        ["o", nodes, frames, out, ref bytes @ ..] => {
+            office_command(m, [nodes, frames, out], &gathered(bytes)?)
+        }
         _ => Err(Early::NoCommand),
     }
 }
@@ -391,6 +452,9 @@ mod tests {
             "t 6 6 020",
             "r 70000 6 10",
             "u x 0 0 0",
+            "n",
+            "d 0",
+            "o 1 1",
             "a 1 1 1",
         ] {
             assert_eq!(differences(line, "4\n"), 1, "{line}");
