@@ -1,9 +1,10 @@
 //! Sends packets to the built program, at each border of what it reads and lends, and compares all
 //! that it prints with the line that documents 01 and 02 give for the packet. The comments derive each
 //! line from the papers; the second evaluator, written from the papers too, must give the same. Then
-//! texts go to the program that reads rule text. The exit status is 1 where anything differs.
+//! texts go to the program that reads rule text, and packets with labels to the one that labels rules.
+//! The exit status is 1 where anything differs.
 //!
-//! `program LAZVORN RULE_TEXT`, in the gate `target/bin/lazvorn target/bin/rule_text`.
+//! `program LAZVORN RULE_TEXT LABEL_PACKET`, in the gate those of `target/bin`.
 //!
 //! What the derivations use, with "used" for the nodes in use and "made" for the new ones of Apply:
 //! - A rule of k leaves and variables under one abstraction, m of them its variable, is a tree of
@@ -13,6 +14,7 @@
 //!   uses of the leaf rule and of the stem rule make one each; nothing else does.
 //! - A node that is made is one that is used: a rule's tree, each argument's digits, and the made.
 
+mod label_packet;
 mod rule_text;
 
 use compare::PAPERS;
@@ -62,6 +64,11 @@ fn limited(rule: &[u8], arguments: &[&str], limit: u32) -> Vec<u8> {
     [packet(rule, arguments), field(3, &limit.to_be_bytes())].concat()
 }
 
+/// A packet with a label at its end.
+fn labelled(packet: Vec<u8>, text: &str) -> Vec<u8> {
+    [packet, field(4, text.as_bytes())].concat()
+}
+
 /// λx. x x, λx. x and λx. Δ.
 const DOUBLE: &[u8] = &[2, 1, 3, 0, 3, 0];
 const SAME: &[u8] = &[2, 3, 0];
@@ -109,10 +116,10 @@ fn papers_lines() -> Vec<Case> {
 
 /// "Anything else, or more than 16,384 bytes, is 6."
 ///
-/// A packet of 16,384 bytes cannot succeed: a rule takes at most 3 + 4,096 bytes, texts that 8,192 nodes
-/// can hold at most 8 * 3 + 8,192, and the limit 7. The one here has the rule λx. Δ, in 5 bytes, and a
-/// text of 16,376 digits, in 3 + 16,376: one whole tree, for which the 8,189 free nodes are too few,
-/// which is 8. A program that takes in fewer bytes finds the text cut short, which is 6.
+/// A packet of 16,384 bytes without a label cannot succeed: a rule takes at most 3 + 4,096 bytes, texts
+/// that 8,192 nodes can hold at most 8 * 3 + 8,192, and the limit 7. The one here has the rule λx. Δ, in
+/// 5 bytes, and a text of 16,376 digits, in 3 + 16,376: one whole tree, for which the 8,189 free nodes
+/// are too few, which is 8. A program that takes in fewer bytes finds the text cut short, which is 6.
 fn lengths() -> Vec<Case> {
     let longest = packet(LEAF, &[&stems(16_376)]);
     assert_eq!(longest.len(), 16_384);
@@ -308,6 +315,88 @@ fn steps() -> Vec<Case> {
     ]
 }
 
+/// "A packet may end with one field of tag 4, a label's text." ([1]) The line is that of the packet
+/// without it, "where that text is whole and the packet keeps within 16,384 bytes".
+///
+/// A label takes no node: λx. Δ, 3 nodes, fills the table with a text of 8,189 digits, with a label
+/// beside it as without; and with a label of 16,376 digits alone, twice as many as there are nodes, it
+/// is a packet of 16,384 bytes that succeeds. On eight leaves it is drop, leaf, stem, drop, leaf, stem,
+/// drop, leaf: 8 steps and 5 nodes beside 3 + 8.
+fn labels() -> Vec<Case> {
+    let whole = |name, packet, line| case(name, labelled(packet, "10"), line);
+    let paper = || packet(DOUBLE, &["0"]);
+    let label = || field(4, b"10");
+    let longest = labelled(packet(LEAF, &[]), &stems(16_376));
+    assert_eq!(longest.len(), 16_384);
+    let longer = labelled(packet(LEAF, &[]), &stems(16_377));
+    let broken_rule = || packet(&[2, 3, 1], &[]);
+    vec![
+        whole("a label", paper(), "0 10 18 10"),
+        whole(
+            "a label and a limit",
+            limited(DOUBLE, &["0"], 10),
+            "0 10 18 10",
+        ),
+        whole("a label, limit 9", limited(DOUBLE, &["0"], 9), "7 0 0 -"),
+        whole("a label, no arguments", packet(SAME, &[]), "0 0 5 21010"),
+        whole(
+            "eight arguments, a label",
+            packet(LEAF, &["0"; 8]),
+            "0 8 16 10",
+        ),
+        whole(
+            "a label, no free node",
+            packet(LEAF, &[&stems(8_189)]),
+            "0 1 8192 0",
+        ),
+        whole(
+            "a label, a text too long",
+            packet(LEAF, &[&stems(8_190)]),
+            "8 0 0 -",
+        ),
+        case("16,384 bytes with a label", longest, "0 0 3 200"),
+        refused("16,385 bytes with a label", longer, 6),
+        refused("a label that is not whole", labelled(paper(), "1"), 4),
+        refused("an empty label", labelled(paper(), ""), 4),
+        refused(
+            "a broken argument, a label",
+            labelled(packet(LEAF, &["1"]), "0"),
+            4,
+        ),
+        refused(
+            "a broken rule, a broken label",
+            labelled(broken_rule(), "1"),
+            5,
+        ),
+        refused(
+            "two broken labels",
+            labelled(labelled(broken_rule(), ""), ""),
+            6,
+        ),
+        refused("two labels", labelled(labelled(paper(), "10"), "10"), 6),
+        refused(
+            "a label before the limit",
+            [paper(), label(), field(3, &[0, 0, 0, 10])].concat(),
+            6,
+        ),
+        refused(
+            "a label before an argument",
+            [field(1, DOUBLE), label(), field(2, b"0")].concat(),
+            6,
+        ),
+        refused(
+            "a byte after a label",
+            [paper(), label(), vec![0]].concat(),
+            6,
+        ),
+        refused(
+            "nine arguments, a label",
+            labelled(packet(SAME, &["0"; 9]), "0"),
+            6,
+        ),
+    ]
+}
+
 // ---- the program
 
 /// All that the program prints for an input, sent in one piece or two.
@@ -343,8 +432,7 @@ fn shown(line: &str) -> String {
 }
 
 /// Whether the program prints the line, and the second evaluator gives it.
-fn same(program: &Path, case: &Case) -> bool {
-    let second = second::line(&second::run(&case.packet, second::PROGRAM, PAPERS));
+fn same(program: &Path, case: &Case, second: &str) -> bool {
     let given = printed(program, &case.packet, case.cut).unwrap_or_else(|error| error.to_string());
     let wanted = format!("{}\n", case.line);
     if given != wanted {
@@ -359,7 +447,7 @@ fn same(program: &Path, case: &Case) -> bool {
         println!(
             "{}: by the second evaluator {}, not {}",
             case.name,
-            shown(&second),
+            shown(second),
             shown(&case.line)
         );
     }
@@ -376,9 +464,14 @@ fn compare(program: &Path) -> bool {
         frames_by_apply(),
         endless(),
         steps(),
+        labels(),
     ];
     let cases: Vec<Case> = parts.into_iter().flatten().collect();
-    let differences = cases.iter().filter(|case| !same(program, case)).count();
+    let line = |case: &Case| second::line(&second::run(&case.packet, second::PROGRAM, PAPERS));
+    let wrong = cases
+        .iter()
+        .filter(|case| !same(program, case, &line(case)));
+    let differences = wrong.count();
     println!(
         "{} packets to the program, {differences} differences",
         cases.len()
@@ -388,17 +481,18 @@ fn compare(program: &Path) -> bool {
 
 fn main() {
     let paths: Vec<PathBuf> = std::env::args_os().skip(1).map(PathBuf::from).collect();
-    let [lazvorn, rule_text] = &paths[..] else {
-        eprintln!("usage: program LAZVORN RULE_TEXT");
+    let Ok([lazvorn, rule_text, label_packet]) = <[PathBuf; 3]>::try_from(paths) else {
+        eprintln!("usage: program LAZVORN RULE_TEXT LABEL_PACKET");
         std::process::exit(2);
     };
-    let (lazvorn, rule_text) = (lazvorn.clone(), rule_text.clone());
+    let all = move || {
+        compare(&lazvorn)
+            & rule_text::compare(&lazvorn, &rule_text)
+            & label_packet::compare(&lazvorn, &label_packet)
+    };
     // The second evaluator recurses as deep as trees and frames go.
     let thread = std::thread::Builder::new().stack_size(1 << 28);
-    let same = thread
-        .spawn(move || compare(&lazvorn) & rule_text::compare(&lazvorn, &rule_text))
-        .expect("a thread")
-        .join();
+    let same = thread.spawn(all).expect("a thread").join();
     if !matches!(same, Ok(true)) {
         std::process::exit(1);
     }

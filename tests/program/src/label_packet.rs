@@ -1,0 +1,200 @@
+//! Sends packets to the built program `label_packet`, at each border of what it reads and lends, and
+//! compares all that it prints with the line that documents 01 and 02 give for the packet. The second
+//! evaluator must give the same. Then a labelled tree goes to the other program as an argument.
+//!
+//! A rule f of m nodes labelled with a text t of n digits is Δ(Δt)(Δ(Δf)(KK)): 2 1 t 2 1 f 2010. It uses
+//! m + n + 7 nodes and has one digit more. So of 8,192 nodes no text has more than 8,193 digits: the
+//! 16,384 out bytes suffice, and 10 cannot come. Nor can 9 but from Translate: 4,097 trees pending take
+//! a label of 8,193 digits, and that is 8.
+
+use crate::{
+    case, chain, field, labelled, limited, packet, printed, refused, same, shown, stems, Case,
+    DOUBLE, LEAF, SAME,
+};
+use compare::{labelled_line, PAPERS};
+use std::path::Path;
+
+/// Document 01's rule, 212101021010, labelled with 10: 12 + 2 + 7 nodes.
+const TEXT: &str = "2110212121010210102010";
+const LINE: &str = "0 0 21 2110212121010210102010";
+
+/// "checks the packet alike, then passes over arguments": the step limit and what the rule would do with
+/// them do not matter.
+fn passed_over() -> Vec<Case> {
+    let with_label = |name, packet| case(name, labelled(packet, "10"), LINE);
+    vec![
+        with_label("the paper's packet", packet(DOUBLE, &["0"])),
+        with_label("no arguments", packet(DOUBLE, &[])),
+        with_label("no steps", limited(DOUBLE, &["0"], 0)),
+        with_label("most steps", limited(DOUBLE, &["0"], 1_000_000)),
+        with_label("on itself", packet(DOUBLE, &["212101021010"])),
+        with_label("eight arguments", packet(DOUBLE, &["0"; 8])),
+        with_label(
+            "an argument without a place",
+            packet(DOUBLE, &[&stems(8_193)]),
+        ),
+    ]
+}
+
+/// 6, "a packet without tag 4 is 6 to it", 5, 4 for the arguments and the label.
+fn checks() -> Vec<Case> {
+    let paper = || packet(DOUBLE, &["0"]);
+    let open_rule = || packet(&[2, 3, 1], &[]);
+    let (label, limit) = (|| field(4, b"10"), field(3, &[0, 0, 0, 10]));
+    vec![
+        refused("no label", paper(), 6),
+        refused("no label, a limit", limited(DOUBLE, &["0"], 10), 6),
+        refused("no label, an open rule", open_rule(), 6),
+        refused("no label, a broken argument", packet(DOUBLE, &["1"]), 6),
+        refused("a label alone", label(), 6),
+        refused(
+            "a label before the limit",
+            [paper(), label(), limit].concat(),
+            6,
+        ),
+        refused("two labels", [paper(), label(), label()].concat(), 6),
+        refused(
+            "an argument after it",
+            [paper(), label(), field(2, b"0")].concat(),
+            6,
+        ),
+        refused("a byte after it", [paper(), label(), vec![4]].concat(), 6),
+        refused(
+            "a label cut short",
+            paper().into_iter().chain([4, 0, 2, b'1']).collect(),
+            6,
+        ),
+        refused(
+            "nine arguments",
+            labelled(packet(DOUBLE, &["0"; 9]), "10"),
+            6,
+        ),
+        refused(
+            "limit 1,000,001",
+            labelled(limited(DOUBLE, &[], 1_000_001), "10"),
+            6,
+        ),
+        refused("an open rule", labelled(open_rule(), "10"), 5),
+        refused(
+            "an open rule, a broken label",
+            labelled(open_rule(), "1"),
+            5,
+        ),
+        refused("a label that is not whole", labelled(paper(), "1"), 4),
+        refused("a label and a digit more", labelled(paper(), "00"), 4),
+        refused("a byte that is no digit", labelled(paper(), "3"), 4),
+        refused("an empty label", labelled(paper(), ""), 4),
+        refused(
+            "a broken argument",
+            labelled(packet(DOUBLE, &["1"]), "10"),
+            4,
+        ),
+        refused("both broken", labelled(packet(DOUBLE, &["1"]), "1"), 4),
+    ]
+}
+
+/// 16,384 bytes: λx. Δ in 5, an argument of 16,371 digits in 3 + 16,371, the label 10 in 5. The rule is
+/// KΔ, 200, and 3 + 2 + 7 nodes are used. A program that takes in fewer bytes finds the label missing.
+fn lengths() -> Vec<Case> {
+    let filled = |digits| labelled(packet(LEAF, &[&stems(digits)]), "10");
+    let longest = filled(16_371);
+    assert_eq!(longest.len(), 16_384);
+    let line = "0 0 12 2110212002010";
+    let in_two = Case {
+        cut: Some(9_000),
+        ..case("16,384 bytes in two pieces", longest.clone(), line)
+    };
+    let far_longer = [&longest[..], &[b'0'; 100_000]].concat();
+    vec![
+        refused("no byte", Vec::new(), 6),
+        refused("16,385 bytes, whole fields", filled(16_372), 6),
+        refused(
+            "16,385 bytes, the last one of no field",
+            [&longest[..], b"0"].concat(),
+            6,
+        ),
+        refused("far more bytes than are read", far_longer, 6),
+        case("16,384 bytes", longest, line),
+        in_two,
+    ]
+}
+
+/// 8,192 nodes and 4,096 frames. λx. Δ has 3 nodes: with Label's 7 a label of 8,182 digits just fits.
+/// With one of 8,183 Label lacks a node, with one of 8,189, which Read just lays, all seven, and one of
+/// 8,190 Read refuses. Forks in first branches: 4,090 and 4,091 leaves are 8,181 digits.
+///
+/// A rule of 8,193 nodes lacks nodes; one of 8,192, and one of 2,049, lacks frames, two a node; one of
+/// 2,048 has them (`chain`, as in the other program's test), and with the label 10 uses 2,057.
+fn room() -> Vec<Case> {
+    let leaf = |text: &str| labelled(packet(LEAF, &[]), text);
+    let chained = |k, variables| labelled(packet(&chain(k, variables), &[]), "10");
+    let rule = "21".repeat(409) + &"200".repeat(410);
+    let most = stems(8_182);
+    let deep = "2".repeat(4_090) + &"0".repeat(4_091);
+    vec![
+        case(
+            "8,192 nodes",
+            leaf(&most),
+            format!("0 0 8192 21{most}212002010"),
+        ),
+        refused("8,193 nodes", leaf(&stems(8_183)), 8),
+        refused("a label of 8,189 digits", leaf(&stems(8_189)), 8),
+        refused("a label of 8,190 digits", leaf(&stems(8_190)), 8),
+        refused("a label of 16,376 digits", leaf(&stems(16_376)), 8),
+        case(
+            "a deep label",
+            leaf(&deep),
+            format!("0 0 8191 21{deep}212002010"),
+        ),
+        refused("a rule of 8,193 nodes", chained(1_639, 0), 8),
+        refused("a rule of 8,192 nodes", chained(1_638, 2), 9),
+        refused("a rule of 2,049 nodes", chained(409, 3), 9),
+        case(
+            "a rule of 2,048 nodes",
+            chained(410, 0),
+            format!("0 0 2057 211021{rule}2010"),
+        ),
+    ]
+}
+
+/// "By the equations, this on any argument equals f on it": λx. x on the labelled tree that the program
+/// prints, and this on the leaf, gives what the rule gives, 10.
+///
+/// λx. x takes 4 steps and 2 nodes. The labelled tree spreads; Δ(Δf)(KK) spreads, KK drops the leaf and
+/// gives K, f takes its 10 steps and 5 nodes, and K on 10 is the stem rule; the label on the leaf is the
+/// stem rule; and the last application drops: 6 steps and 2 nodes beside f's. Used are 5 + 22 + 1 nodes
+/// before, and 9 are made.
+fn label_and_run(lazvorn: &Path, label_packet: &Path) -> bool {
+    let labelling = labelled(packet(DOUBLE, &["0"]), "10");
+    let line = printed(label_packet, &labelling, None).unwrap_or_else(|error| error.to_string());
+    let text = line.trim_end().rsplit(' ').next().unwrap_or_default();
+    let packet = packet(SAME, &[text, "0"]);
+    let given = printed(lazvorn, &packet, None).unwrap_or_else(|error| error.to_string());
+    let second = second::line(&second::run(&packet, second::PROGRAM, PAPERS));
+    let fine = text == TEXT && given == "0 20 37 10\n" && second == "0 20 37 10";
+    if !fine {
+        println!(
+            "the labelled tree {text} run: {}, by the second {second}",
+            shown(&given)
+        );
+    }
+    fine
+}
+
+pub fn compare(lazvorn: &Path, label_packet: &Path) -> bool {
+    let parts = [passed_over(), checks(), lengths(), room()];
+    let cases: Vec<Case> = parts.into_iter().flatten().collect();
+    let line =
+        |case: &Case| labelled_line(&second::labelled(&case.packet, second::PROGRAM, PAPERS));
+    let wrong = cases
+        .iter()
+        .filter(|case| !same(label_packet, case, &line(case)));
+    let differences = wrong.count();
+    let run = label_and_run(lazvorn, label_packet);
+    println!(
+        "{} packets to the program label_packet, {differences} differences; a labelled tree run, {} differences",
+        cases.len(),
+        usize::from(!run)
+    );
+    differences == 0 && run
+}
