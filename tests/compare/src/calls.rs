@@ -506,7 +506,7 @@ fn form(labelled: &Labelled) -> [usize; 8] {
     ]
 }
 
-/// Any sound table and any node; or a labelled tree, which must come apart into the rule and the label it
+/// Any table and any node; or a labelled tree, which must come apart into the rule and the label it
 /// was made of; or such a tree with one node of its form changed.
 fn unlabel(random: &mut Random, noise: &Noise) -> Call {
     let mut labelled = match random.below(8) {
