@@ -1,7 +1,7 @@
 -- A packet with a label and the one without it ([1]). Assumes nothing.
 use Prim.Native.Nat.{ℕ, _+_, _≤_}
 use mathlib.Core.Path.{_≡_, refl}
-use mathlib.Core.List.{List, [], _∷_, _++_, append-assoc, append-nil}
+use mathlib.Core.List.{List, [], _++_, append-assoc, append-nil}
 use mathlib.Core.Option.{none, some}
 use native.Mathlib.Omega.{arith}
 use lib.ListN.{length, length-append}
@@ -21,13 +21,13 @@ label-added {l} {p} h e v short =
       short = short;
     }
 
--- Every packet with a label is such a one.
-pub record Unlabelled (l : List ℕ) (p : Packet) (v : List ℕ) : Type 0 where
+-- Every packet with a label is such a one: the bytes before the label's field are the packet without it.
+pub record Rest (l : List ℕ) (p : Packet) (v : List ℕ) : Type 0 where
   pub rest : List ℕ
   pub bytes : l ≡ rest ++ fieldBytes 4 v
   pub is-packet : IsPacket rest (withLabel p none)
 
-pub label-taken : {l : List ℕ} {p : Packet} → IsPacket l p → (v : List ℕ) → p .label ≡ some v → Unlabelled l p v
+pub label-taken : {l : List ℕ} {p : Packet} → IsPacket l p → (v : List ℕ) → p .label ≡ some v → Rest l p v
 unfolding labelBytes
 label-taken {l} {p} h v e =
     let rest : List ℕ = fieldBytes 1 (p .rule) ++ (argumentBytes (p .arguments) ++ (h .end ++ [])) in

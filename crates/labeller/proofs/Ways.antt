@@ -1,6 +1,6 @@
 -- Laws of the labelled rule's stages and checks, one for each way that their code goes. Assumes nothing.
-use Prim.Native.Nat.{ℕ, _-_, _≤_, _<_}
-use mathlib.Core.Path.{_≡_, refl, sym, _∙_}
+use Prim.Native.Nat.{ℕ, _-_, _<_}
+use mathlib.Core.Path.{_≡_, refl, _∙_}
 use mathlib.Core.Bool.{Bool, true, false}
 use mathlib.Core.List.{List, []}
 use mathlib.Core.Option.{Option, none, some}
@@ -8,7 +8,7 @@ use native.Mathlib.Omega.{arith}
 use lib.ListN.{length}
 use Rattle.calculus.specs.Uses.{noUses}
 use Rattle.calculus.specs.Bytes.{rule}
-use Rattle.table.specs.Outcome.{Outcome, Entered, whole, wholeOut}
+use Rattle.table.specs.Outcome.{Outcome, whole, wholeOut}
 use Rattle.table.specs.declared.Refusal.{Refusal}
 use Rattle.table.specs.declared.Refusal.the-variants as refusal
 use Rattle.table.specs.declared.Made.{Made}
@@ -93,7 +93,7 @@ module _ (w s o l : List ℕ) {b : Bool} (h : b ≡ lengthsFit w s o) where
       unfolding labelPacket labelWhole labelParts labelAt
       label-none z = rw (← h, e, p .is-packet, z)
 
-      module _ (i : 0 < m) where
+      module _ (i : m ≡ 0 → ⊥) where
         abbrev lack : Option Refusal
         lack = partsLack (valueAt l 0) (texts (packetAt l k n m))
 

@@ -7,7 +7,7 @@ use running::Ran;
 use table::Made;
 use table::Refusal;
 ghost use mathlib.Core.Path.{_≡_};
-ghost use Prim.Native.Nat.{_+_, _-_, _≤_, _<_};
+ghost use Prim.Native.Nat.{_≤_, _<_};
 ghost use lib.ListN.{length};
 ghost use Rattle.table.specs.Outcome.{wholeOut};
 ghost use Rattle.packet.specs.Code.{endAt, valueAt};
@@ -106,18 +106,18 @@ pub fn label_packet(table: &mut [u32], stack: &mut [u32], out: &mut [u8], packet
     let Form::Whole {
         arguments,
         limit: _,
-        label,
+        label_size,
     } = packet::read_packet(packet)
     else {
         return Ran::Refused(Refusal::Packet);
     };
-    if label == 0 {
+    if label_size == 0 {
         return Ran::Refused(Refusal::Packet);
     }
-    let checked = packet_checks::check_parts(packet, arguments, label);
+    let checked = packet_checks::check_parts(packet, arguments, label_size);
     if let Checked::Refused(refusal) = checked {
         return Ran::Refused(refusal);
     }
-    let at = packet.len() - label;
+    let at = packet.len() - label_size;
     label_stages(table, stack, out, packet, at)
 }

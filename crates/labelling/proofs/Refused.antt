@@ -1,32 +1,33 @@
 -- What a refused `label_packet` leaves, and the exact condition of each check's refusal. Assumes nothing.
 use Prim.Native.Nat.{ℕ}
 use mathlib.Core.Path.{_≡_, refl, ap}
-use mathlib.Core.Bool.{true, false}
-use mathlib.Core.List.{List, []}
-use mathlib.Core.Logic.{_↔_, _⊎_, inl, inr}
+use mathlib.Core.Bool.{false}
+use mathlib.Core.List.{List}
+use mathlib.Core.Logic.{_↔_, inl, inr}
 use mathlib.Core.Option.{Option, none, some}
 use Rattle.calculus.specs.Tree.{Tree}
-use Rattle.calculus.specs.Uses.{noUses}
 use Rattle.calculus.specs.Term.{Term}
 use Rattle.calculus.specs.Bytes.{rule}
+use Rattle.calculus.specs.Abstraction.{ruleTree}
 use Rattle.table.specs.Outcome.{Outcome, wholeOut}
 use Rattle.table.specs.Refusal.{number, refusedNumbers, clears}
 use Rattle.table.specs.declared.Refusal.{Refusal}
-use Rattle.table.specs.declared.Refusal.the-variants.{Limits, Rule, Nodes}
+use Rattle.table.specs.declared.Refusal.the-variants.{Limits, Rule}
 use Rattle.table.specs.declared.Refusal.the-variants as refusal
 use Rattle.table.proofs.Words.{zero-one}
-use Rattle.ternary.specs.Read.{readable}
 use Rattle.ternary.specs.Write.{lacks}
 use Rattle.ternary.specs.Held.{Spent, no-out, no-frame}
-use Rattle.fields.specs.Packet.{Packet, packet}
+use Rattle.label.specs.Label.{labelled}
+use Rattle.fields.specs.Packet.{Packet, packet, IsPacket, Bytes}
+use Rattle.fields.proofs.Exact.{packet-found, packet-exact}
 use Rattle.running.specs.Run.{texts, ranNumbers}
-use Rattle.running.specs.Claims.{Fit, Unreadable, LabelReads, no-label, label-of, Checked, translate-nodes, translate-frames, ReadStops, no-nodes, no-frames, later}
+use Rattle.running.specs.Claims.{Fit, Unreadable, LabelReads, no-label, label-of, Checked, translate-nodes, translate-frames, ReadStops, no-nodes, no-frames, later, TooFew, few-nodes, few-frames, few-bytes}
 use Rattle.running.specs.declared.Ran.{Ran}
 use Rattle.running.specs.declared.Ran.the-variants.{Refused}
 use Rattle.running.proofs.Checks.{fit-true, not-fit, rule-lacks, texts-lack, nothing-lacks, Checks, checks}
 use Rattle.running.proofs.Checks as found
 use Rattle.labelling.specs.LabelPacket.{labelParts, labelWhole, labelPacket}
-use Rattle.labelling.specs.Claims.{LabelChecked, Unlabelled, Labelled, LabelStops, in-translate, in-read, in-label, in-write, LabelRefuses, too-long, no-packet, no-rule, no-text, stops}
+use Rattle.labelling.specs.Claims.{LabelChecked, NoLabel, Labelled, LabelStops, in-translate, in-read, in-label, in-write, LabelRefuses, too-long, no-packet, no-rule, no-text, stops, Comes, limits, a-packet, a-rule, a-text, too-few, Labels}
 use Rattle.labelling.proofs.Stages.{LabelStaged, label-staged}
 use Rattle.labelling.proofs.Stages as staged
 
@@ -40,10 +41,10 @@ module _ {w s o : List ℕ} (l : List ℕ) where
 
   module _ (fit : Fit w s o) where
     -- 6: "a packet without tag 4 is 6 to it"
-    pub label-unlabelled : Unlabelled l → labelPacket w s o l ≡ wholeOut (Refused refusal.Packet) w s o
+    pub label-missing : NoLabel l → labelPacket w s o l ≡ wholeOut (Refused refusal.Packet) w s o
     unfolding labelPacket labelWhole labelParts
-    label-unlabelled (inl e) = rw (fit-true fit, e)
-    label-unlabelled (inr e) = rw (fit-true fit, e .1, e .2)
+    label-missing (inl e) = rw (fit-true fit, e)
+    label-missing (inr e) = rw (fit-true fit, e .1, e .2)
 
     -- 5
     pub label-bad-rule : {p : Packet} → Labelled l p → rule (p .rule) ≡ none → labelPacket w s o l ≡ wholeOut (Refused Rule) w s o
@@ -71,28 +72,28 @@ pub data Checking (w s o l : List ℕ) : Type 0 where
 pub checking : (w s o l : List ℕ) → Checking w s o l
 checking w s o l = go (checks w s o l)
   where
-    unlabelled : Fit w s o → Unlabelled l → Checking w s o l
-    unlabelled f u = fails (no-packet f u (label-unlabelled l f u))
+    missing : Fit w s o → NoLabel l → Checking w s o l
+    missing f u = fails (no-packet f u (label-missing l f u))
 
     of-rule : Fit w s o → {p : Packet} → packet l ≡ some p → rule (p .rule) ≡ none → (v : Option (List ℕ)) → p .label ≡ v → Checking w s o l
-    of-rule f {p} e q none h = unlabelled f (inr (p, e, h))
+    of-rule f {p} e q none h = missing f (inr (p, e, h))
     of-rule f {p} e q (some v) h =
         let a : Labelled l p = record { is-packet = e; value = v; has-label = h } in
         fails (no-rule f a q (label-bad-rule l f a q))
 
     of-text : Fit w s o → {p : Packet} → packet l ≡ some p → {t : Term} → rule (p .rule) ≡ some t → Unreadable (texts p) → (v : Option (List ℕ)) → p .label ≡ v → Checking w s o l
-    of-text f {p} e q u none h = unlabelled f (inr (p, e, h))
+    of-text f {p} e q u none h = missing f (inr (p, e, h))
     of-text f {p} e q u (some v) h =
         let a : Labelled l p = record { is-packet = e; value = v; has-label = h } in
         fails (no-text f a q u (label-bad-text l f a q u))
 
     of-label : {p : Packet} {t : Term} {args : List Tree} → Checked w s o l p t args → {v : Option (List ℕ)} → p .label ≡ v → LabelReads v → Checking w s o l
-    of-label {p} c h no-label = unlabelled (c .fit) (inr (p, c .is-packet, h))
+    of-label {p} c h no-label = missing (c .fit) (inr (p, c .is-packet, h))
     of-label {args = args} c h (label-of r) = goes-on (record { args = args; checked = c; has-label = h; label-is = r })
 
     go : Checks w s o l → Checking w s o l
     go (found.too-long h) = fails (too-long h (label-long l h))
-    go (found.no-packet f e) = unlabelled f (inl e)
+    go (found.no-packet f e) = missing f (inl e)
     go (found.no-rule f {p = p} e q) = of-rule f e q (p .label) refl
     go (found.no-text f {p = p} e q u) = of-text f e q u (p .label) refl
     go (found.passes c) = of-label c refl (c .label-reads)
@@ -100,22 +101,27 @@ checking w s o l = go (checks w s o l)
 -- ---- refusals
 
 -- the stages stop with 8 to 10 alone
-stops-clears : {w s o : List ℕ} {t : Term} {v : List ℕ} {x : Tree} {e : Refusal} {m : ℕ} → LabelStops w s o t v x e m → clears e ≡ true
-unfolding clears number
-stops-clears (in-translate (translate-nodes h)) = refl
-stops-clears (in-translate (translate-frames h k)) = refl
-stops-clears (in-read h r) = go r
+pub stops-few : {w s o : List ℕ} {t : Term} {v : List ℕ} {x : Tree} {e : Refusal} {m : ℕ} → LabelStops w s o t v x e m → TooFew e
+stops-few (in-translate (translate-nodes h)) = few-nodes
+stops-few (in-translate (translate-frames h k)) = few-frames
+stops-few (in-read h r) = go r
   where
-    go : {w s : List ℕ} {u : ℕ} {ls : List (List ℕ)} {e : Refusal} {m : ℕ} → ReadStops w s u ls e m → clears e ≡ true
-    go (no-nodes h) = refl
-    go (no-frames h k) = refl
+    go : {w s : List ℕ} {u : ℕ} {ls : List (List ℕ)} {e : Refusal} {m : ℕ} → ReadStops w s u ls e m → TooFew e
+    go (no-nodes h) = few-nodes
+    go (no-frames h k) = few-frames
     go (later h k r) = go r
-stops-clears (in-label h r k) = refl
-stops-clears (in-write h r k q) = go q
+stops-few (in-label h r k) = few-nodes
+stops-few (in-write h r k q) = go q
   where
-    go : {all held n : ℕ} {r : Tree} {e : Refusal} → Spent all held r n (lacks e) → clears e ≡ true
-    go (no-out h) = refl
-    go (no-frame h) = refl
+    go : {all held n : ℕ} {r : Tree} {e : Refusal} → Spent all held r n (lacks e) → TooFew e
+    go (no-out h) = few-bytes
+    go (no-frame h) = few-frames
+
+few-clears : {e : Refusal} → TooFew e → clears e ≡ false → ⊥
+unfolding clears number
+few-clears few-nodes q = zero-one (cc)
+few-clears few-frames q = zero-one (cc)
+few-clears few-bytes q = zero-one (cc)
 
 pub refuses-with : {w s o l : List ℕ} {q : Outcome Ran} {e : Refusal} → LabelRefuses w s o l q e → q .answer ≡ Refused e
 refuses-with (too-long h q) = ap (λ (z : Outcome Ran). z .answer) q
@@ -147,6 +153,17 @@ module _ (w s o l : List ℕ) where
   unfolding ranNumbers refusedNumbers
   refused-numbers e q = rw q
 
+  -- the refusals that come, and no other
+  pub label-comes : (e : Refusal) → labelPacket w s o l .answer ≡ Refused e → Comes e
+  label-comes e q = go (label-refused e q)
+    where
+      go : {c : Refusal} → LabelRefuses w s o l (labelPacket w s o l) c → Comes c
+      go (too-long h r) = limits
+      go (no-packet f h r) = a-packet
+      go (no-rule f h k r) = a-rule
+      go (no-text f h k u r) = a-text
+      go (stops c h k r) = too-few (stops-few h)
+
   -- 1 exactly where a length does not fit
   pub label-limits : (labelPacket w s o l .answer ≡ Refused Limits) ↔ (Fit w s o → ⊥)
   unfolding clears number
@@ -154,25 +171,25 @@ module _ (w s o l : List ℕ) where
     where
       go : LabelRefuses w s o l (labelPacket w s o l) Limits → Fit w s o → ⊥
       go (too-long h r) = h
-      go (stops c h k r) = zero-one (cc (stops-clears h))
+      go (stops c h k r) = absurd (few-clears (stops-few h) refl)
 
   -- 6 exactly where the bytes are no packet, or one without tag 4
-  pub label-packet : (labelPacket w s o l .answer ≡ Refused refusal.Packet) ↔ (Fit w s o × Unlabelled l)
+  pub label-packet : (labelPacket w s o l .answer ≡ Refused refusal.Packet) ↔ (Fit w s o × NoLabel l)
   unfolding clears number
-  label-packet = (λ q. go (label-refused refusal.Packet q), λ h. ap (λ (x : Outcome Ran). x .answer) (label-unlabelled l (h .0) (h .1)))
+  label-packet = (λ q. go (label-refused refusal.Packet q), λ h. ap (λ (x : Outcome Ran). x .answer) (label-missing l (h .0) (h .1)))
     where
-      go : LabelRefuses w s o l (labelPacket w s o l) refusal.Packet → Fit w s o × Unlabelled l
+      go : LabelRefuses w s o l (labelPacket w s o l) refusal.Packet → Fit w s o × NoLabel l
       go (no-packet f h r) = (f, h)
-      go (stops c h k r) = zero-one (cc (stops-clears h))
+      go (stops c h k r) = absurd (few-clears (stops-few h) refl)
 
-  -- 5 exactly where the packet has a label and its rule's bytes are none
+  -- 5 exactly where the packet has a label and its rule's bytes are no rule
   pub label-rule : (labelPacket w s o l .answer ≡ Refused Rule) ↔ (Fit w s o × (p : Packet) × Labelled l p × (rule (p .rule) ≡ none))
   unfolding clears number
   label-rule = (λ q. go (label-refused Rule q), λ h. ap (λ (x : Outcome Ran). x .answer) (label-bad-rule l (h .0) (h .2) (h .3)))
     where
       go : LabelRefuses w s o l (labelPacket w s o l) Rule → Fit w s o × (p : Packet) × Labelled l p × (rule (p .rule) ≡ none)
       go (no-rule f {p = p} h k r) = (f, p, h, k)
-      go (stops c h k r) = zero-one (cc (stops-clears h))
+      go (stops c h k r) = absurd (few-clears (stops-few h) refl)
 
   -- 4 exactly where the packet has a label and a rule, and one of its texts, the label's last, is not whole
   pub label-text : (labelPacket w s o l .answer ≡ Refused refusal.Text) ↔ (Fit w s o × (p : Packet) × Labelled l p × (t : Term) × (rule (p .rule) ≡ some t) × Unreadable (texts p))
@@ -182,4 +199,30 @@ module _ (w s o l : List ℕ) where
       go : LabelRefuses w s o l (labelPacket w s o l) refusal.Text
           → Fit w s o × (p : Packet) × Labelled l p × (t : Term) × (rule (p .rule) ≡ some t) × Unreadable (texts p)
       go (no-text f {p = p} h {t = t} k u r) = (f, p, h, t, k, u)
-      go (stops c h k r) = zero-one (cc (stops-clears h))
+      go (stops c h k r) = absurd (few-clears (stops-few h) refl)
+
+-- Where the checks pass, the labelled tree's text is written, or nodes, frames or out bytes are too few.
+pub label-complete : {w s o l : List ℕ} {p : Packet} {t : Term} {v : List ℕ} {x : Tree} → LabelChecked w s o l p t v x → Labels w s o l (labelled (ruleTree t) x)
+label-complete {w} {s} {o} {l} {t = t} {v = v} {x = x} c = go (label-checked c)
+  where
+    go : LabelStaged w s o t v x (labelPacket w s o l) → Labels w s o l (labelled (ruleTree t) x)
+    go (staged.stops {e = e} h k) = inr (e, stops-few h, ap (λ (z : Outcome Ran). z .answer) (k .outcome))
+    go (staged.ends {z = z} h q) = inl (z .used, ap (λ (z : Outcome Ran). z .answer) q)
+
+-- 6 by what a packet's bytes are and not by a reader of them: it comes exactly where the bytes are no packet with a label.
+pub label-packet-exact : (w s o l : List ℕ) → Bytes l
+    → (labelPacket w s o l .answer ≡ Refused refusal.Packet) ↔ (Fit w s o × ((p : Packet) (v : List ℕ) → IsPacket l p → p .label ≡ some v → ⊥))
+label-packet-exact w s o l bytes =
+    (λ q. let h = label-packet w s o l .0 q in (h .0, none-is (h .1)), λ h. label-packet w s o l .1 (h .0, missing (packet l) refl (h .1)))
+  where
+    none-is : NoLabel l → (p : Packet) (v : List ℕ) → IsPacket l p → p .label ≡ some v → ⊥
+    none-is (inl e) p v i h = zero-one (cc (packet-found i))
+    none-is (inr e) p v i h = let a = e .1 in let b = e .2 in let d = packet-found i in zero-one (cc)
+
+    missing : (r : Option Packet) → packet l ≡ r → ((p : Packet) (v : List ℕ) → IsPacket l p → p .label ≡ some v → ⊥) → NoLabel l
+    missing none e n = inl e
+    missing (some p) e n = go (p .label) refl
+      where
+        go : (v : Option (List ℕ)) → p .label ≡ v → NoLabel l
+        go none h = inr (p, e, h)
+        go (some v) h = absurd (n p v (packet-exact l p bytes .0 e) h)

@@ -1,6 +1,6 @@
 -- The stages of `label_packet`, one after another: each goes on with what it made, or stops for what it lacks. Assumes nothing.
-use Prim.Native.Nat.{ℕ, _+_, _-_, _≤_, _<_}
-use mathlib.Core.Path.{_≡_, refl, sym, ap, _∙_}
+use Prim.Native.Nat.{ℕ, _+_}
+use mathlib.Core.Path.{_≡_, refl}
 use mathlib.Core.Bool.{true}
 use mathlib.Core.List.{List, [], _∷_, _++_}
 use mathlib.Core.Option.{some}
@@ -11,10 +11,9 @@ use Rattle.calculus.specs.Uses.{noUses}
 use Rattle.calculus.specs.Term.{Term}
 use Rattle.calculus.specs.Bytes.{rule}
 use Rattle.calculus.specs.Abstraction.{ruleTree}
-use Rattle.table.specs.Nodes.{Table, capacity, Sound}
+use Rattle.table.specs.Nodes.{Table, Sound}
 use Rattle.table.specs.Outcome.{Outcome, Entered, wholeOut, zeros}
 use Rattle.table.specs.declared.Refusal.{Refusal}
-use Rattle.table.specs.declared.Refusal.the-variants.{Nodes}
 use Rattle.table.specs.declared.Made.{Made}
 use Rattle.table.specs.declared.Made.the-variants as made
 use Rattle.table.specs.Claims.{Extends, Has}

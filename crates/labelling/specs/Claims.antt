@@ -23,9 +23,9 @@ use Rattle.ternary.specs.Held.{Spent}
 use Rattle.label.specs.Label.{labelled}
 use Rattle.fields.specs.Packet.{Packet, packet}
 use Rattle.running.specs.Run.{texts, ranNumbers, ranUses}
-use Rattle.running.specs.Claims.{Fit, Unreadable, Checked, TranslateStops, TranslateHad, ReadStops, ReadsHad}
+use Rattle.running.specs.Claims.{Fit, Unreadable, Checked, TranslateStops, TranslateHad, ReadStops, ReadsHad, TooFew}
 use Rattle.running.specs.declared.Ran.{Ran}
-use Rattle.running.specs.declared.Ran.the-variants.{Refused}
+use Rattle.running.specs.declared.Ran.the-variants.{Text, Refused}
 use Rattle.labelling.specs.LabelPacket.{labelPacket}
 
 -- What holds where none of the four checks refuses: those of Run pass ("checks the packet alike"), and the packet has a label, of the text v and the
@@ -37,8 +37,8 @@ pub record LabelChecked (w s o l : List ℕ) (p : Packet) (t : Term) (v : List �
   pub label-is : readable v ≡ some x
 
 -- "a packet without tag 4 is 6 to it": bytes that are no packet, or one without a label
-abbrev pub Unlabelled : List ℕ → Type 0
-Unlabelled l = (packet l ≡ none) ⊎ ((p : Packet) × (packet l ≡ some p) × (p .label ≡ none))
+abbrev pub NoLabel : List ℕ → Type 0
+NoLabel l = (packet l ≡ none) ⊎ ((p : Packet) × (packet l ≡ some p) × (p .label ≡ none))
 
 -- a packet with a label
 pub record Labelled (l : List ℕ) (p : Packet) : Type 0 where
@@ -60,12 +60,25 @@ pub data LabelStops (w s o : List ℕ) (t : Term) (v : List ℕ) (x : Tree) : Re
 -- 10: the words of the m nodes made since the entry are 0 and all others as found, the stack is 0, and "the out bytes stay as at entry".
 pub data LabelRefuses (w s o l : List ℕ) (q : Outcome Ran) : Refusal → Type 0 where
   too-long : (Fit w s o → ⊥) → q ≡ wholeOut (Refused Limits) w s o → LabelRefuses w s o l q Limits
-  no-packet : Fit w s o → Unlabelled l → q ≡ wholeOut (Refused refusal.Packet) w s o → LabelRefuses w s o l q refusal.Packet
+  no-packet : Fit w s o → NoLabel l → q ≡ wholeOut (Refused refusal.Packet) w s o → LabelRefuses w s o l q refusal.Packet
   no-rule : Fit w s o → {p : Packet} → Labelled l p → rule (p .rule) ≡ none → q ≡ wholeOut (Refused Rule) w s o → LabelRefuses w s o l q Rule
   no-text : Fit w s o → {p : Packet} → Labelled l p → {t : Term} → rule (p .rule) ≡ some t → Unreadable (texts p) → q ≡ wholeOut (Refused refusal.Text) w s o
       → LabelRefuses w s o l q refusal.Text
   stops : {p : Packet} {t : Term} {v : List ℕ} {x : Tree} → LabelChecked w s o l p t v x → {e : Refusal} {m : ℕ} → LabelStops w s o t v x e m → m ≤ capacity w
       → q ≡ wholeOut (Refused e) (cleared w 0 (m * 2)) (zeros s) o → LabelRefuses w s o l q e
+
+-- the refusals that come: those of the four checks, and of a stage 8, 9 and 10
+pub data Comes : Refusal → Type 0 where
+  limits : Comes Limits
+  a-packet : Comes refusal.Packet
+  a-rule : Comes Rule
+  a-text : Comes refusal.Text
+  too-few : {e : Refusal} → TooFew e → Comes e
+
+-- `label_packet`'s answer is the text of the labelled tree r, in no step, or 8, 9 or 10
+abbrev pub Labels : List ℕ → List ℕ → List ℕ → List ℕ → Tree → Type 0
+Labels w s o l r =
+    ((u : ℕ) × (labelPacket w s o l .answer ≡ Text 0 u (length (text r)) noUses)) ⊎ ((e : Refusal) × TooFew e × (labelPacket w s o l .answer ≡ Refused e))
 
 -- What is claimed of a `label_packet` that writes n digits and leaves u nodes in use.
 pub record LabelCompletes (w s o l : List ℕ) (u n : ℕ) : Type 0 where

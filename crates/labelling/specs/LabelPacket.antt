@@ -38,6 +38,6 @@ unfoldable pub labelWhole : List ℕ → List ℕ → List ℕ → Option Packet
 labelWhole w s o none = wholeOut (Refused refusal.Packet) w s o
 labelWhole w s o (some p) = labelParts w s o p (p .label)
 
--- The labelled rule of the packet l, with the table w, the stack s and the out bytes o. The answer is Run's, with no use of a rule: "on refusal used is 0".
+-- The labelled rule of the packet l, with the table w, the stack s and the out bytes o. The answer has the form of Run's, with no use of a rule: "on refusal used is 0".
 unfoldable pub labelPacket : List ℕ → List ℕ → List ℕ → List ℕ → Outcome Ran
 labelPacket w s o l = cond (lengthsFit w s o) (labelWhole w s o (packet l)) (wholeOut (Refused refusal.Limits) w s o)

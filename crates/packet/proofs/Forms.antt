@@ -1,16 +1,15 @@
 -- Laws of a packet's form, one for each way that the code goes. Assumes nothing.
 use Prim.Native.Nat.{ℕ, zero, suc, _+_, _-_, _*_, _≤_, _<_}
-use mathlib.Core.Path.{_≡_, refl, sym, ap, _∙_}
+use mathlib.Core.Path.{_≡_, refl, _∙_}
 use mathlib.Core.Bool.{Bool, true, false, cond, _&&_}
 use mathlib.Core.List.{List, [], _∷_}
 use mathlib.Core.Option.{Option, none, some}
 use native.Mathlib.Omega.{arith}
-use native.Mathlib.Numerals.{add-one}
 use lib.ListN.{length, getD, take, drop, length-drop}
 use lib.Seq.{length-take-le, drop-cons}
 use lib.Dec.{leb, eqb}
 use borrow.Author.Tests.{le-leb, lt-leb, leb-true, leb-false, eq-eqb, ne-eqb}
-use Rattle.fields.specs.Packet.{Field, before, fields, Packet, defaultLimit, highFirst, withArgument, afterLimit, afterArguments, afterRule, fromFields, packet}
+use Rattle.fields.specs.Packet.{Field, before, Packet, defaultLimit, highFirst, withArgument, afterLimit, afterArguments, afterRule, fromFields, packet}
 use Rattle.packet.specs.Code.{sizeAt, endAt, valueAt, foundAt, fieldsFrom, withFields, labelSize, formOf, counted}
 use Rattle.packet.specs.declared.Form.{Form}
 use Rattle.packet.specs.declared.Form.the-variants.{Whole, Broken}

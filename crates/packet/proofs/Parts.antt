@@ -1,6 +1,6 @@
 -- Where a packet's rule, its arguments and its label stand in its bytes. Assumes nothing.
-use Prim.Native.Nat.{ℕ, zero, suc, _+_, _-_, _*_, _≤_, _<_}
-use mathlib.Core.Path.{_≡_, refl, sym, ap, _∙_}
+use Prim.Native.Nat.{ℕ, zero, suc, _+_, _-_, _≤_, _<_}
+use mathlib.Core.Path.{_≡_, refl, ap, _∙_}
 use mathlib.Core.Bool.{Bool, true, false, cond, _&&_}
 use mathlib.Core.List.{List, [], _∷_}
 use mathlib.Core.Option.{Option, none, some}
@@ -9,7 +9,7 @@ use lib.ListN.{length, getD, take, drop, length-drop}
 use lib.Seq.{length-take-le}
 use lib.Dec.{leb, eqb}
 use borrow.Author.Tests.{leb-true, leb-false, eqb-true, eqb-false}
-use Rattle.fields.specs.Packet.{Field, before, fields, Packet, defaultLimit, highFirst, withArgument, afterLimit, afterArguments, afterRule, packet}
+use Rattle.fields.specs.Packet.{Field, before, Packet, defaultLimit, highFirst, withArgument, afterLimit, afterArguments, afterRule, packet}
 use Rattle.packet.specs.Code.{sizeAt, endAt, valueAt, Stand, valuesAt, fieldsFrom, withFields, labelSize, formOf, labelAt, LabelStands, packetAt}
 use Rattle.packet.specs.declared.Form.the-variants.{Whole, Broken}
 use Rattle.packet.proofs.Fields.{fields-end, fields-broken, fields-next, fields-some}
@@ -127,19 +127,19 @@ after-parts l at q (suc j) =
         go false = e
 
 -- the label's field by its size
-pub label-at : (l : List ℕ) (m : ℕ) → 0 < m → labelAt l m ≡ some (valueAt l (length l - m))
+pub label-at : (l : List ℕ) (m : ℕ) → (m ≡ 0 → ⊥) → labelAt l m ≡ some (valueAt l (length l - m))
 unfolding labelAt
-label-at l zero h = absurd (omega arith)
+label-at l zero h = absurd (h refl)
 label-at l (suc m) h = refl
 
 label-found : (l : List ℕ) (v : Option (List ℕ)) → LabelOf l v → (v ≡ labelAt l (labelSize v)) × LabelStands l (labelSize v)
 unfolding labelSize labelAt
-label-found l none h = (refl, λ p. absurd (omega arith))
+label-found l none h = (refl, λ p. absurd (p refl))
 label-found l (some v) h =
     let from = h .0 in
     let a : length v ≡ sizeAt l from = ap length (h .2) ∙ length-take-le (sizeAt l from) (drop (from + 3) l) (omega (arith, length-drop (from + 3) l, h .1)) in
     let b : length l - (3 + length v) ≡ from = omega (arith, h .1) in
-    (rw (label-at l (3 + length v) (omega arith), b, ← h .2), λ p. (omega (arith, h .1), rw b (h .1)))
+    (rw (label-at l (3 + length v) (λ e. omega arith), b, ← h .2), λ p. (omega (arith, h .1), rw b (h .1)))
 
 -- a packet with k arguments, the limit n and m bytes of a label's field: its fields stand in its bytes one after another, the label's at their end
 pub record Parts (l : List ℕ) (k n m : ℕ) : Type 0 where

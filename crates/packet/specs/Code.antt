@@ -1,7 +1,7 @@
 -- Where the fields of a packet stand, and what the code's own values say in terms of the definitions. Assumes nothing: these are definitions.
-use Prim.Native.Nat.{ℕ, zero, suc, _+_, _-_, _*_, _≤_, _<_}
+use Prim.Native.Nat.{ℕ, zero, suc, _+_, _-_, _*_, _≤_}
 use mathlib.Core.Path.{_≡_}
-use mathlib.Core.Bool.{Bool, true, false, cond}
+use mathlib.Core.Bool.{cond}
 use mathlib.Core.List.{List, [], _∷_}
 use mathlib.Core.Option.{Option, none, some}
 use lib.ListN.{length, getD, take, drop}
@@ -69,7 +69,7 @@ labelAt l zero = none
 labelAt l (suc m) = some (valueAt l (length l - suc m))
 
 abbrev pub LabelStands : List ℕ → ℕ → Type 0
-LabelStands l m = 0 < m → (m ≤ length l) × (endAt l (length l - m) ≡ length l)
+LabelStands l m = (m ≡ 0 → ⊥) → (m ≤ length l) × (endAt l (length l - m) ≡ length l)
 
 -- a packet with k arguments, the limit n and m bytes of a label's field, by where its fields stand
 abbrev pub packetAt : List ℕ → ℕ → ℕ → ℕ → Packet

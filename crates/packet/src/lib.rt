@@ -15,13 +15,13 @@ pub struct Part {
     pub end: usize,
 }
 
-// What a packet is: broken, or whole, with so many arguments and this step limit; the last `label` bytes are the label's field, and it has none
-// where they are 0.
+// What a packet is: broken, or whole, with so many arguments and this step limit; its last `label_size` bytes are the label's field, and it has
+// none where that is 0.
 pub enum Form {
     Whole {
         arguments: usize,
         limit: usize,
-        label: usize,
+        label_size: usize,
     },
     Broken,
 }
@@ -89,7 +89,7 @@ fn after_limit(packet: &[u8], at: usize, count: usize, limit: usize) -> Form
         return Form::Whole {
             arguments: count,
             limit: limit,
-            label: 0,
+            label_size: 0,
         };
     }
     let Found::Field { tag, end } = field_at(packet, at) else {
@@ -104,7 +104,7 @@ fn after_limit(packet: &[u8], at: usize, count: usize, limit: usize) -> Form
     Form::Whole {
         arguments: count,
         limit: limit,
-        label: end - at,
+        label_size: end - at,
     }
 }
 
@@ -152,7 +152,7 @@ fn after_rule(packet: &[u8], from: usize) -> Form
     Form::Whole {
         arguments: count,
         limit: 100000,
-        label: 0,
+        label_size: 0,
     }
 }
 

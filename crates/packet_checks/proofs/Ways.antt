@@ -1,5 +1,5 @@
 -- Laws of the checks that the readers of a packet share, one for each way that the code goes. Assumes nothing.
-use Prim.Native.Nat.{ℕ, zero, suc, _+_, _-_, _≤_, _<_}
+use Prim.Native.Nat.{ℕ, _+_, _-_, _≤_, _<_}
 use mathlib.Core.Path.{_≡_, refl}
 use mathlib.Core.Bool.{Bool, true, false, _&&_}
 use mathlib.Core.List.{List, [], _∷_, _++_}
@@ -62,17 +62,13 @@ module _ (l : List ℕ) (at count i : ℕ) where
         go (some t) p = zero-one (cc (rw p at e))
 
 -- the label's text
-pub positive : (m : ℕ) → (m ≡ 0 → ⊥) → 0 < m
-positive zero n = absurd (n refl)
-positive (suc m) n = omega arith
-
 pub no-label-text : (l : List ℕ) (m : ℕ) → m ≡ 0 → true ≡ allReadable (labelTexts (labelAt l m))
 unfolding allReadable labelTexts labelAt
 no-label-text l m e = rw e
 
 pub label-text-is : (l : List ℕ) (m : ℕ) → (m ≡ 0 → ⊥) → {b : Bool} → b ≡ isSome (readable (valueAt l (length l - m))) → b ≡ allReadable (labelTexts (labelAt l m))
 unfolding allReadable labelTexts isSome
-label-text-is l m n {b} e = rw (label-at l m (positive m n)) (go (isSome (readable (valueAt l (length l - m)))) e)
+label-text-is l m n {b} e = rw (label-at l m n) (go (isSome (readable (valueAt l (length l - m)))) e)
   where
     go : (x : Bool) → b ≡ x → b ≡ (x && true)
     go true p = p

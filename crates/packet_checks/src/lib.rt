@@ -44,24 +44,24 @@ fn all_texts(packet: &[u8], from: usize, count: usize) -> bool
 }
 
 // Whether the label's text, in the packet's last bytes, is one that Read takes; where there is no label, nothing is left to check.
-fn label_text(packet: &[u8], bytes: usize) -> bool
-    requires { ⌜ LabelStands (now packet) bytes ⌝ }
-    ensures { λ r. ⌜ r ≡ allReadable (labelTexts (labelAt (now (packet .entry)) bytes)) ⌝ }
+fn label_text(packet: &[u8], size: usize) -> bool
+    requires { ⌜ LabelStands (now packet) size ⌝ }
+    ensures { λ r. ⌜ r ≡ allReadable (labelTexts (labelAt (now (packet .entry)) size)) ⌝ }
 {
-    if bytes == 0 {
+    if size == 0 {
         return true;
     }
-    let part = packet::part_at(packet, packet.len() - bytes);
+    let part = packet::part_at(packet, packet.len() - size);
     let start = part.start;
     let end = part.end;
     reader::is_text(&packet[start..end])
 }
 
 // Checks a packet with so many arguments and a label's field of so many bytes: its rule, its arguments' texts, its label's text.
-pub fn check_parts(packet: &[u8], arguments: usize, label: usize) -> Checked
-    requires { ⌜ (endAt (now packet) 0 ≤ length (now packet)) × Stand (now packet) (endAt (now packet) 0) arguments × LabelStands (now packet) label ⌝ }
+pub fn check_parts(packet: &[u8], arguments: usize, size: usize) -> Checked
+    requires { ⌜ (endAt (now packet) 0 ≤ length (now packet)) × Stand (now packet) (endAt (now packet) 0) arguments × LabelStands (now packet) size ⌝ }
     ensures { λ r. ⌜ refusalOf r
-        ≡ partsLack (valueAt (now (packet .entry)) 0) (valuesAt (now (packet .entry)) (endAt (now (packet .entry)) 0) arguments ++ labelTexts (labelAt (now (packet .entry)) label)) ⌝ }
+        ≡ partsLack (valueAt (now (packet .entry)) 0) (valuesAt (now (packet .entry)) (endAt (now (packet .entry)) 0) arguments ++ labelTexts (labelAt (now (packet .entry)) size)) ⌝ }
 {
     let part = packet::part_at(packet, 0);
     let start = part.start;
@@ -72,7 +72,7 @@ pub fn check_parts(packet: &[u8], arguments: usize, label: usize) -> Checked
     if !all_texts(packet, end, arguments) {
         return Checked::Refused(Refusal::Text);
     }
-    if !label_text(packet, label) {
+    if !label_text(packet, size) {
         return Checked::Refused(Refusal::Text);
     }
     Checked::Passed

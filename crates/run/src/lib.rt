@@ -18,12 +18,12 @@ pub fn run(table: &mut [u32], stack: &mut [u32], out: &mut [u8], packet: &[u8]) 
     let Form::Whole {
         arguments,
         limit,
-        label,
+        label_size,
     } = packet::read_packet(packet)
     else {
         return Ran::Refused(Refusal::Packet);
     };
-    let checked = packet_checks::check_parts(packet, arguments, label);
+    let checked = packet_checks::check_parts(packet, arguments, label_size);
     if let Checked::Refused(refusal) = checked {
         return Ran::Refused(refusal);
     }

@@ -8,7 +8,7 @@ use Rattle.calculus.specs.Term.{Term}
 use Rattle.calculus.specs.Abstraction.{ruleTree}
 use Rattle.table.specs.declared.Refusal.{Refusal}
 use Rattle.fields.specs.Packet.{Packet}
-use Rattle.running.specs.Claims.{nodesMade, TranslateHad, ReadsHad, and-read, ReadStops, no-nodes, no-frames, later, TranslateStops, translate-nodes, translate-frames, Stops, in-translate, in-read, in-apply, in-write}
+use Rattle.running.specs.Claims.{nodesMade, TranslateHad, ReadsHad, and-read, ReadStops, no-nodes, no-frames, later, translate-nodes, translate-frames, Stops, in-translate, in-read, in-apply, in-write}
 
 reads-one : {w s : List ℕ} {u : ℕ} {ls : List (List ℕ)} {e c : Refusal} {m n : ℕ} → ReadStops w s u ls e m → ReadStops w s u ls c n → m ≡ n
 reads-one (no-nodes h) (no-nodes k) = refl

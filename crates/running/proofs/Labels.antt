@@ -1,19 +1,18 @@
 -- Run passes over a packet's label ([1]). Assumes nothing.
 use Prim.Native.Nat.{ℕ, _≤_}
-use mathlib.Core.Path.{_≡_, refl, sym, _∙_}
-use mathlib.Core.Bool.{Bool, true, false, cond, _&&_}
+use mathlib.Core.Path.{_≡_, refl}
 use mathlib.Core.List.{List, [], _∷_, _++_, append-nil}
-use mathlib.Core.Option.{Option, none, some}
+use mathlib.Core.Option.{none, some}
 use native.Mathlib.Omega.{arith}
 use lib.ListN.{length, length-append}
 use Rattle.calculus.specs.Tree.{Tree}
 use Rattle.ternary.specs.Text.{treeOf}
 use Rattle.ternary.specs.Read.{readable, isSome}
 use Rattle.ternary.proofs.Reading.{some-readable}
-use Rattle.fields.specs.Packet.{Packet, packet, fieldBytes, IsPacket, withLabel}
+use Rattle.fields.specs.Packet.{Packet, fieldBytes, IsPacket, withLabel}
 use Rattle.fields.proofs.Exact.{packet-found}
-use Rattle.fields.proofs.Labels.{label-added, Unlabelled, label-taken}
-use Rattle.running.specs.Run.{allReadable, labelTexts, texts, partsLack, stages, runPacket, run}
+use Rattle.fields.proofs.Labels.{label-added, Rest, label-taken}
+use Rattle.running.specs.Run.{allReadable, labelTexts, partsLack, stages, runPacket, run}
 
 -- one text more, which Read takes
 one-more : (ls : List (List ℕ)) (v : List ℕ) {x : Tree} → readable v ≡ some x → allReadable (ls ++ (v ∷ [])) ≡ allReadable ls
@@ -38,5 +37,8 @@ module _ (w s o : List ℕ) where
 
   -- Every packet with a label is such a one: it ends with the label's field, and what stands before is the packet without it.
   pub run-labelled : {l : List ℕ} {p : Packet} → IsPacket l p → (v : List ℕ) → p .label ≡ some v → {x : Tree} → treeOf v ≡ some x
-      → (u : Unlabelled l p v) → run w s o l ≡ run w s o (u .rest)
-  run-labelled h v e t u = rw (u .bytes) (run-label (u .is-packet) refl v t (rw (← u .bytes) (h .short)))
+      → (u : Rest l p v) × (run w s o l ≡ run w s o (u .rest))
+  run-labelled {l} {p} h v e t = let u = label-taken h v e in (u, same (u .rest) (u .bytes) (u .is-packet) (h .short))
+    where
+      same : (rest : List ℕ) → l ≡ rest ++ fieldBytes 4 v → IsPacket rest (withLabel p none) → length l ≤ 16384 → run w s o l ≡ run w s o rest
+      same rest q i short = rw q (run-label i refl v t (rw (← q) short))

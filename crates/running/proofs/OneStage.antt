@@ -1,8 +1,8 @@
 -- What a single stage of a packet's reader comes to: it goes on with what it made, or stops for what it lacks. Assumes nothing.
 use Prim.Native.Nat.{ℕ, _+_, _-_, _*_, _/_, _≤_, _<_}
-use mathlib.Core.Path.{_≡_, refl, sym, ap, _∙_}
+use mathlib.Core.Path.{_≡_, refl, ap, _∙_}
 use mathlib.Core.Bool.{Bool, true}
-use mathlib.Core.List.{List, [], _∷_, _++_}
+use mathlib.Core.List.{List, _∷_, _++_}
 use mathlib.Core.Option.{some}
 use native.Mathlib.Omega.{arith}
 use lib.ListN.{length, drop, length-replicate}
@@ -13,10 +13,9 @@ use Rattle.calculus.specs.Uses.{steps}
 use Rattle.calculus.specs.Term.{Term}
 use Rattle.calculus.specs.Bytes.{rule}
 use Rattle.calculus.specs.Abstraction.{ruleTree}
-use Rattle.table.specs.Nodes.{Table, Placed, capacity, sound, Sound, treeAt, lay, cleared}
+use Rattle.table.specs.Nodes.{Table, Placed, capacity, sound, Sound, lay, cleared}
 use Rattle.table.specs.Outcome.{Entered, Outcome, wholeOut, frames, zeros, placed, laid}
 use Rattle.table.specs.declared.Refusal.{Refusal}
-use Rattle.table.specs.declared.Refusal.the-variants.{Nodes, Frames}
 use Rattle.table.specs.declared.Made.{Made}
 use Rattle.table.specs.declared.Made.the-variants as made
 use Rattle.table.specs.Claims.{Extends, Has, Kept}

@@ -173,7 +173,7 @@ module _ (w s o l : List ℕ) where
       go (no-rule f {p = p} h k r) = (f, p, h, k)
       go (stops c h k r) = no-stage h refl
 
-  -- "4: its arguments' texts, first to last."
+  -- "4: its arguments' texts, first to last.", and then the label's ([1])
   pub run-text : (run w s o l .answer ≡ Refused Text) ↔ BadText w s o l
   unfolding clears number
   run-text = (λ q. go (run-refused Text q), λ h. ap (λ (x : Outcome Ran). x .answer) (run-bad-text l (h .0) (h .2) (h .4) (h .5)))

@@ -20,7 +20,7 @@ use Rattle.table.specs.declared.Refusal.{Refusal}
 use Rattle.table.specs.declared.Made.{Made}
 use Rattle.table.specs.Claims.{Has, Kept}
 use Rattle.table.proofs.Trees.{kept-refl, kept-trans, extends-trans}
-use Rattle.table.proofs.Making.{has, stays}
+use Rattle.table.proofs.Making.{stays}
 use Rattle.ternary.specs.Read.{read, readable}
 use Rattle.table.proofs.Words.{zero-one}
 use Rattle.translation.specs.Translate.{translate}

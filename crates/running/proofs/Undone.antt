@@ -1,4 +1,4 @@
--- What a stage of Run that is refused leaves of the table, and what Run then leaves. Assumes nothing.
+-- What a stage of a packet's reader that is refused leaves of the table, and what the reader then leaves. Assumes nothing.
 use Prim.Native.Nat.{ℕ, _+_, _-_, _*_, _≤_, _<_}
 use mathlib.Core.Path.{_≡_, refl, sym, _∙_}
 use mathlib.Core.Bool.{Bool, true, false}
@@ -34,7 +34,7 @@ pub record Back (t : Table) (m : ℕ) (x : List ℕ) : Type 0 where
 pub back-same : {t : Table} {x : List ℕ} → Sound t → x ≡ t .words → Back t (t .used) x
 back-same {t} s e = record { up = omega arith; within = s .within; words-are = e ∙ sym (cleared-none (t .words) (t .used * 2)) }
 
--- Run found the words w with no node in use, and clears the nodes that t has: all nodes made since are cleared, and the rest is as found.
+-- The reader found the words w with no node in use, and clears the nodes that t has: all nodes made since are cleared, and the rest is as found.
 pub back-cleared : {w : List ℕ} {t : Table} {m : ℕ} {x : List ℕ} → Extends (record { words = w; used = 0 }) t → Back t m x
     → cleared x 0 (t .used * 2) ≡ cleared w 0 (m * 2)
 back-cleared {w} {t} {m} {x} e b =

@@ -158,8 +158,8 @@ pub data Stops (w s o : List ℕ) (p : Packet) (t : Term) (args : List Tree) : R
       → m ≡ nodesMade w s p t args → m ≡ nodesBy p t k → Stops w s o p t args e m
 
 -- What was not so where Run refuses with e, and the whole outcome x: "1: lengths only. 6: packet broken. 5: its rule. 4: its arguments' texts, first to
--- last.", and then the label's ([1]). These "leave lent memory as found". Then a stage stops with 7 to 10: the words of the m nodes made since Run's entry are 0 and all others as
--- found, the stack is 0, and "the out bytes stay as at entry".
+-- last.", and then the label's ([1]). These "leave lent memory as found". Then a stage stops with 7 to 10: the words of the m nodes made since Run's entry
+-- are 0 and all others as found, the stack is 0, and "the out bytes stay as at entry".
 pub data Refuses (w s o l : List ℕ) (x : Outcome Ran) : Refusal → Type 0 where
   too-long : (Fit w s o → ⊥) → x ≡ wholeOut (Refused Limits) w s o → Refuses w s o l x Limits
   no-packet : Fit w s o → packet l ≡ none → x ≡ wholeOut (Refused refusal.Packet) w s o → Refuses w s o l x refusal.Packet

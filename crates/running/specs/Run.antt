@@ -1,14 +1,12 @@
 -- The whole outcome of Run (Operations, Run). Assumes nothing: these are definitions.
 use Prim.Native.Nat.{ℕ, _-_, _*_}
-use mathlib.Core.Bool.{Bool, true, false, cond, _&&_}
+use mathlib.Core.Bool.{Bool, true, cond, _&&_}
 use mathlib.Core.List.{List, [], _∷_, _++_}
 use mathlib.Core.Option.{Option, none, some}
 use lib.ListN.{length}
 use lib.Dec.{leb}
-use Rattle.calculus.specs.Tree.{Tree}
 use Rattle.calculus.specs.declared.Uses.{Uses}
 use Rattle.calculus.specs.Uses.{noUses, _⊕_, steps}
-use Rattle.calculus.specs.Term.{Term}
 use Rattle.calculus.specs.Bytes as bytes
 use Rattle.table.specs.Nodes.{cleared}
 use Rattle.table.specs.Outcome.{Outcome, wholeOut, unless, zeros}
@@ -29,7 +27,7 @@ use Rattle.fields.specs.Packet.{Packet, packet}
 use Rattle.running.specs.declared.Ran.{Ran}
 use Rattle.running.specs.declared.Ran.the-variants.{Text, Refused}
 
--- the numbers of Run's answer: "On refusal used is 0."
+-- the numbers of the answer of Run, and of `label_packet`: "On refusal used is 0."
 unfoldable pub ranNumbers : Ran → Numbers
 ranNumbers (Text j u n k) = record { refusal = 0; node = 0; used = u; steps = j; digits = n }
 ranNumbers (Refused e) = refusedNumbers 0 e
@@ -39,11 +37,11 @@ unfoldable pub ranUses : Ran → Uses
 ranUses (Text j u n k) = k
 ranUses (Refused e) = noUses
 
--- A stage was refused with u nodes in use before it: every node made since Run's entry is cleared, and the stack; the out bytes stay.
+-- A stage was refused with u nodes in use before it: every node made since the entry is cleared, and the stack; the out bytes stay.
 unfoldable pub stopped : Refusal → List ℕ → ℕ → List ℕ → List ℕ → Outcome Ran
 stopped e w u s o = wholeOut (Refused e) (cleared w 0 (u * 2)) (zeros s) o
 
--- What follows a stage: the refusal of an inner operation stops Run; else its node and its count of used nodes go on. u nodes were in use
+-- What follows a stage: the refusal of an inner operation ends the call; else its node and its count of used nodes go on. u nodes were in use
 -- before the stage, o are the out bytes.
 unfoldable pub afterMade : ℕ → List ℕ → Outcome Made → (List ℕ → ℕ → List ℕ → ℕ → Outcome Ran) → Made → Outcome Ran
 afterMade u o r next (made.Node v u′) = next (r .table) u′ (r .stack) v
@@ -87,11 +85,12 @@ unfolding isSome
 allReadable [] = true
 allReadable (l ∷ ls) = isSome (readable l) && allReadable ls
 
--- a packet's texts in the order in which they are checked: "The depot reader checks that text after the arguments' texts" ([1])
+-- the label's text, where there is one
 unfoldable pub labelTexts : Option (List ℕ) → List (List ℕ)
 labelTexts none = []
 labelTexts (some v) = v ∷ []
 
+-- a packet's texts in the order in which they are checked: "The depot reader checks that text after the arguments' texts" ([1])
 abbrev pub texts : Packet → List (List ℕ)
 texts p = p .arguments ++ labelTexts (p .label)
 

@@ -1,8 +1,9 @@
-// Run as a definition, in specs/, and its theorems, in proofs/. Its code is in the crates `stages` and `run`.
+// Run as a definition, in specs/, and its theorems, in proofs/. Its code is in the crates `packet_checks`,
+// `endings`, `stages` and `run`.
 use calculus::Uses;
 use table::Refusal;
 
-// Run's answer: the steps, the count of used nodes, how many digits were written, and the uses of each rule.
+// The answer of Run, and of `label_packet`: the steps, the count of used nodes, how many digits were written, and the uses of each rule.
 pub enum Ran {
     Text {
         steps: usize,

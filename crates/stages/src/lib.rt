@@ -1,15 +1,15 @@
 // The stages of Run on a packet that passed the checks: Translate, Read of each argument, Apply in order, Write. Each stage is a function that ends
 // in the next one, as in the definition (the crate `running`), and takes its inner answer apart: a refusal clears what was made since Run's entry
 // (the crate `endings`).
-// The table is sound throughout, so each stage is the inner operation, and no node is looked at again. specs/ says what the stages ask.
+// The table is sound throughout, so each stage is the inner operation, and no node is looked at again. specs/ and the crate
+// `endings` say what the stages ask.
 use applying::Applied;
 use calculus::Uses;
 use running::Ran;
 use table::Made;
 use table::Refusal;
 ghost use mathlib.Core.Path.{_≡_};
-ghost use mathlib.Core.List.{List};
-ghost use Prim.Native.Nat.{ℕ, _*_, _≤_, _<_};
+ghost use Prim.Native.Nat.{ℕ, _≤_, _<_};
 ghost use lib.ListN.{length, take};
 ghost use Rattle.calculus.specs.Uses.{noUses};
 ghost use Rattle.table.specs.Outcome.{wholeOut};

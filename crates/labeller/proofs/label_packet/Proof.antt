@@ -3,7 +3,6 @@ use mathlib.Core.Path.{_≡_, refl, sym, _∙_}
 use native.Mathlib.Omega.{arith}
 use borrow.Author.Tests.{not-true, not-false}
 use Rattle.packet.proofs.Parts.{packet-parts}
-use Rattle.packet_checks.proofs.Ways.{positive}
 use Rattle.endings.proofs.Ways.{empty-ready}
 use Rattle.labeller.proofs.Ways.{too-long, packet-none, label-none, refused, passed}
 use borrow.Author.Needs.{needs}
@@ -88,7 +87,7 @@ returns-4 : tie.Need-returns-4
 returns-4 c =
     let a = c .before .before .before .before .before .before .before .before .before .before .before .before .before .before .before .before .before .before .args in
     let p = packet-parts (a .packet .now) _ _ _ (sym (c .before .before .before .before .before .before .arguments .given .1) ∙ c .before .before .before .before .before .before .before .before .read-packet .ensures) in
-    refused (a .table .now) (a .stack .now) (a .out .now) (a .packet .now) (c .before .before .before .before .before .before .before .before .before .before .lengths-fit .ensures) (not-false _ (c .before .before .before .before .before .before .before .before .before .if1 .left)) p (positive _ (c .before .before .before .before .if2 .left))
+    refused (a .table .now) (a .stack .now) (a .out .now) (a .packet .now) (c .before .before .before .before .before .before .before .before .before .before .lengths-fit .ensures) (not-false _ (c .before .before .before .before .before .before .before .before .before .if1 .left)) p (c .before .before .before .before .if2 .left)
     (rw (c .before .checked .given .1) at (c .before .before .before .check-parts .ensures))
 
 enum-told-2 : tie.Need-enum-told-2
@@ -98,13 +97,13 @@ sub-at : tie.Need-sub-at
 sub-at c =
     let a = c .before .before .before .before .before .before .before .before .before .before .before .before .before .before .before .before .before .args in
     let p = packet-parts (a .packet .now) _ _ _ (sym (c .before .before .before .before .before .arguments .given .1) ∙ c .before .before .before .before .before .before .before .read-packet .ensures) in
-    p .label-stands (positive _ (c .before .before .before .if2 .left)) .0
+    p .label-stands (c .before .before .before .if2 .left) .0
 
 label-stages-requires : tie.Need-label-stages-requires
 label-stages-requires c κs =
     let a = c .before .before .before .before .before .before .before .before .before .before .before .before .before .before .before .before .before .before .before .before .args in
     let p = packet-parts (a .packet .now) _ _ _ (sym (c .before .before .before .before .before .before .before .before .arguments .given .1) ∙ c .before .before .before .before .before .before .before .before .before .before .read-packet .ensures) in
-    let h = p .label-stands (positive _ (c .before .before .before .before .before .before .if2 .left)) in
+    let h = p .label-stands (c .before .before .before .before .before .before .if2 .left) in
     (empty-ready (a .table .now) (a .stack .now) (a .out .now) (sym (c .before .before .before .before .before .before .before .before .before .before .before .before .lengths-fit .ensures) ∙ not-false _ (c .before .before .before .before .before .before .before .before .before .before .before .if1 .left)), p .rule-stands, omega (arith, h .1))
 
 same-length-13 : tie.Need-same-length-13
@@ -120,7 +119,7 @@ returns-5 : tie.Need-returns-5
 returns-5 c =
     let a = c .before .before .before .before .before .before .before .before .before .before .before .before .before .before .before .before .before .before .before .before .before .before .before .before .before .before .before .args in
     let p = packet-parts (a .packet .now) _ _ _ (sym (c .before .before .before .before .before .before .before .before .before .before .before .before .before .before .before .arguments .given .1) ∙ c .before .before .before .before .before .before .before .before .before .before .before .before .before .before .before .before .before .read-packet .ensures) in
-    c .before .before .before .before .before .before .label-stages .ensures ∙ passed (a .table .now) (a .stack .now) (a .out .now) (a .packet .now) (c .before .before .before .before .before .before .before .before .before .before .before .before .before .before .before .before .before .before .before .lengths-fit .ensures) (not-false _ (c .before .before .before .before .before .before .before .before .before .before .before .before .before .before .before .before .before .before .if1 .left)) p (positive _ (c .before .before .before .before .before .before .before .before .before .before .before .before .before .if2 .left))
+    c .before .before .before .before .before .before .label-stages .ensures ∙ passed (a .table .now) (a .stack .now) (a .out .now) (a .packet .now) (c .before .before .before .before .before .before .before .before .before .before .before .before .before .before .before .before .before .before .before .lengths-fit .ensures) (not-false _ (c .before .before .before .before .before .before .before .before .before .before .before .before .before .before .before .before .before .before .if1 .left)) p (c .before .before .before .before .before .before .before .before .before .before .before .before .before .if2 .left)
     (rw (c .before .before .before .before .before .before .before .before .before .before .enum-told2 .given .1) at (c .before .before .before .before .before .before .before .before .before .before .before .before .check-parts .ensures))
 
 pub label-packet-spec : {M : Type 1} → statement M

@@ -28,7 +28,7 @@ rule-size-requires c κs = search needs
 returns : tie.Need-returns
 returns c =
     let l = c .before .before .before .before .before .args .packet .now in
-    rule-none l (valuesAt l (endAt l 0) (c .before .before .before .before .before .args .arguments)) (labelTexts (labelAt l (c .before .before .before .before .before .args .label)))
+    rule-none l (valuesAt l (endAt l 0) (c .before .before .before .before .before .args .arguments)) (labelTexts (labelAt l (c .before .before .before .before .before .args .size)))
     (rw (c .before .before .before .part-at .ensures, part-value l 0) at (c .before .rule-size .ensures)) (c .if1 .taken)
 
 all-texts-requires : tie.Need-all-texts-requires
@@ -37,7 +37,7 @@ all-texts-requires c κs = rw (c .before .before .before .part-at .ensures) (c .
 returns-2 : tie.Need-returns-2
 returns-2 c =
     let l = c .before .before .before .before .before .before .before .args .packet .now in
-    text-none l (valuesAt l (endAt l 0) (c .before .before .before .before .before .before .before .args .arguments)) (labelTexts (labelAt l (c .before .before .before .before .before .before .before .args .label)))
+    text-none l (valuesAt l (endAt l 0) (c .before .before .before .before .before .before .before .args .arguments)) (labelTexts (labelAt l (c .before .before .before .before .before .before .before .args .size)))
     (rw (c .before .before .before .before .before .part-at .ensures, part-value l 0) at (c .before .before .before .rule-size .ensures)) (c .before .before .if1 .left) (rw (c .before .before .before .before .before .part-at .ensures) at (c .before .all-texts .ensures)) (not-true _ (c .if2 .taken))
 
 label-text-requires : tie.Need-label-text-requires
@@ -46,14 +46,14 @@ label-text-requires c κs = c .before .before .before .before .before .before .b
 returns-3 : tie.Need-returns-3
 returns-3 c =
     let l = c .before .before .before .before .before .before .before .before .before .args .packet .now in
-    label-none l (valuesAt l (endAt l 0) (c .before .before .before .before .before .before .before .before .before .args .arguments)) (labelTexts (labelAt l (c .before .before .before .before .before .before .before .before .before .args .label)))
+    label-none l (valuesAt l (endAt l 0) (c .before .before .before .before .before .before .before .before .before .args .arguments)) (labelTexts (labelAt l (c .before .before .before .before .before .before .before .before .before .args .size)))
     (rw (c .before .before .before .before .before .before .before .part-at .ensures, part-value l 0) at (c .before .before .before .before .before .rule-size .ensures)) (c .before .before .before .before .if1 .left) (rw (c .before .before .before .before .before .before .before .part-at .ensures) at (c .before .before .before .all-texts .ensures)) (not-false _ (c .before .before .if2 .left))
     (c .before .label-text .ensures) (not-true _ (c .if3 .taken))
 
 returns-4 : tie.Need-returns-4
 returns-4 c =
     let l = c .before .before .before .before .before .before .before .before .before .args .packet .now in
-    all-checked l (valuesAt l (endAt l 0) (c .before .before .before .before .before .before .before .before .before .args .arguments)) (labelTexts (labelAt l (c .before .before .before .before .before .before .before .before .before .args .label)))
+    all-checked l (valuesAt l (endAt l 0) (c .before .before .before .before .before .before .before .before .before .args .arguments)) (labelTexts (labelAt l (c .before .before .before .before .before .before .before .before .before .args .size)))
     (rw (c .before .before .before .before .before .before .before .part-at .ensures, part-value l 0) at (c .before .before .before .before .before .rule-size .ensures)) (c .before .before .before .before .if1 .left) (rw (c .before .before .before .before .before .before .before .part-at .ensures) at (c .before .before .before .all-texts .ensures)) (not-false _ (c .before .before .if2 .left))
     (c .before .label-text .ensures) (not-false _ (c .if3 .left))
 
