@@ -21,8 +21,9 @@ int main(void) {
     lazvorn_read(table, 16384, 0, stack, 12288, labelled, a[LAZVORN_DIGITS], r);
     if (r[LAZVORN_REFUSAL] != 0) return 1;
     lazvorn_unlabel(table, 16384, r[LAZVORN_USED], r[LAZVORN_NODE], p);
+    if (p[LAZVORN_REFUSAL] != 0) return 1;
     printf("%.*s:", (int)a[LAZVORN_DIGITS], (char *)labelled);
     printf(" rule %.*s,", written(p[LAZVORN_USED], p[LAZVORN_NODE]), (char *)out);
     printf(" label %.*s\n", written(p[LAZVORN_USED], p[LAZVORN_LABEL]), (char *)out);
-    return p[LAZVORN_REFUSAL] != 0;
+    return 0;
 }

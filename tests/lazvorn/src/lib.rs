@@ -4,7 +4,8 @@
 //! call leaves in them what documents 01 and 02 say. No call has a condition on its arguments:
 //! lengths, counts and node numbers that do not fit are refused.
 
-/// The five numbers of an answer. A refusal has `used` as at entry and 0 for the numbers after it.
+/// The five numbers of an answer. A refusal has `used` as at entry (0 for `label_packet`) and 0 for the
+/// numbers after it.
 #[derive(Clone, Copy, Debug, Default, PartialEq, Eq)]
 pub struct Numbers {
     /// 0 for success, else the refusal's number.

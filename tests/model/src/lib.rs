@@ -321,7 +321,7 @@ fn rule(bytes: &[u8]) -> Option<Term> {
 
 /// The leaves and variables of a term once its abstractions are translated, and how many of them are
 /// the variable of each abstraction around it, the nearest first: "a term of k leaves and variables,
-/// m of them x, becomes one of 5k - 2 + 2m".
+/// m of them x, becomes one of 5k − 2 + 2m".
 fn size(term: &Term) -> (u128, Vec<u128>) {
     match term {
         Term::Leaf => (1, Vec::new()),
@@ -689,11 +689,11 @@ fn packet_of(packet: &[u8]) -> Option<Packet<'_>> {
     })
 }
 
-/// Who reads a packet: "a packet without tag 4 is 6" to the office alone ([1]).
+/// What reads a packet: "a packet without tag 4 is 6" to `label_packet` alone ([1]).
 #[derive(Clone, Copy, PartialEq)]
 enum Reader {
-    Depot,
-    Office,
+    Run,
+    LabelPacket,
 }
 
 /// 1 for lengths, 6, 5, then 4 for the arguments' texts, first to last, and for the label's after them.
@@ -702,7 +702,7 @@ fn checked<'a>(memory: &Memory, packet: &'a [u8], reader: Reader) -> Result<Pack
         return Err(1);
     }
     let packet = packet_of(packet).ok_or(6usize)?;
-    if reader == Reader::Office && packet.label.is_none() {
+    if reader == Reader::LabelPacket && packet.label.is_none() {
         return Err(6);
     }
     if rule(packet.rule).is_none() {
@@ -715,9 +715,9 @@ fn checked<'a>(memory: &Memory, packet: &'a [u8], reader: Reader) -> Result<Pack
     Ok(packet)
 }
 
-/// The depot reader: a label whose text is whole changes nothing.
+/// Run of a packet: a label whose text is whole changes nothing.
 pub fn run(memory: &mut Memory, packet: &[u8]) -> Counted {
-    let packet = match checked(memory, packet, Reader::Depot) {
+    let packet = match checked(memory, packet, Reader::Run) {
         Ok(packet) => packet,
         Err(number) => return refused_uses(number, 0),
     };
@@ -774,15 +774,15 @@ pub enum Stage {
     Write,
 }
 
-/// The office reader: "Translate, Read of the label, Label, Write" ([1]). Arguments and step limit are
-/// passed over.
+/// A packet's rule labelled: "Translate, Read of the label, Label, Write" ([1]). Arguments and step limit
+/// are passed over.
 pub fn label_packet(memory: &mut Memory, packet: &[u8]) -> Answer {
     label_packet_to(memory, packet).0
 }
 
 /// The same, and the stage at which it ends.
 pub fn label_packet_to(memory: &mut Memory, packet: &[u8]) -> (Answer, Stage) {
-    let packet = match checked(memory, packet, Reader::Office) {
+    let packet = match checked(memory, packet, Reader::LabelPacket) {
         Ok(packet) => packet,
         Err(number) => return (refused(number, 0), Stage::Checks),
     };
@@ -797,7 +797,7 @@ pub fn label_packet_to(memory: &mut Memory, packet: &[u8]) -> (Answer, Stage) {
     (answer, stage)
 }
 
-/// The operations in the office's order. `used` is the count of nodes made by those that succeeded.
+/// The operations in `label_packet`'s order. `used` is the count of nodes made by those that succeeded.
 fn label_stages(
     memory: &mut Memory,
     packet: &Packet,
@@ -806,7 +806,7 @@ fn label_stages(
 ) -> Result<Answer, Refusal> {
     let rule = taken(translate(memory, 0, packet.rule), used)?[1];
     *stage = Stage::Read;
-    let text = packet.label.expect("the office's packet has a label");
+    let text = packet.label.expect("a label, as checked before");
     let tree = taken(read(memory, *used, text), used)?[1];
     *stage = Stage::Label;
     let node = taken(label(memory, *used, rule, tree), used)?[1];

@@ -68,9 +68,9 @@ fn checks_in_order() {
         (&[open_rule, LABEL, LABEL], 6, 6),
         (&[], 6, 6),
     ];
-    for (parts, depot, office) in rows {
+    for (parts, of_run, of_label_packet) in rows {
         let packet = parts.concat();
-        for (number, labels) in [(depot, false), (office, true)] {
+        for (number, labels) in [(of_run, false), (of_label_packet, true)] {
             let found = memory(60, 60, 60);
             let mut after = found.clone();
             let refusal = match labels {
@@ -83,7 +83,7 @@ fn checks_in_order() {
     }
 }
 
-/// "a packet [..] more than 16,384 bytes, is 6", with the label among the bytes.
+/// "Anything else, or more than 16,384 bytes, is 6.": the label is among the bytes.
 #[test]
 fn the_longest_packet() {
     let packet = |digits: usize| {
@@ -107,7 +107,7 @@ fn the_longest_packet() {
 
 /// 12 nodes and 24 frames by Translate, 2 nodes by Read, 7 by Label, 22 digits by Write.
 #[test]
-fn the_stages_of_the_office() {
+fn the_stages_of_label_packet() {
     let packet = [RULE, ARGUMENT, LABEL].concat();
     let ends = |nodes, frames, out| {
         let found = memory(nodes, frames, out);

@@ -328,7 +328,7 @@ fn label_packet_command(m: &mut Memory, packet: &[u8]) -> String {
     line(m, labelled)
 }
 
-fn office_command(m: &mut Memory, room: [&str; 3], packet: &[u8]) -> Answer<String> {
+fn label_packet_in_room_command(m: &mut Memory, room: [&str; 3], packet: &[u8]) -> Answer<String> {
     let [nodes, frames, out] = [number(room[0])?, number(room[1])?, number(room[2])?];
     let table = lend(&mut m.table, 2 * nodes)?;
     let stack = lend(&mut m.stack, 3 * frames)?;
@@ -366,7 +366,7 @@ fn command(m: &mut Memory, fields: &[&str]) -> Answer<String> {
         ["p", ref bytes @ ..] => Ok(packet_command(m, &gathered(bytes)?)),
         ["k", ref bytes @ ..] => Ok(label_packet_command(m, &gathered(bytes)?)),
         ["o", nodes, frames, out, ref bytes @ ..] => {
-            office_command(m, [nodes, frames, out], &gathered(bytes)?)
+            label_packet_in_room_command(m, [nodes, frames, out], &gathered(bytes)?)
         }
         _ => Err(Early::NoCommand),
     }
