@@ -442,41 +442,43 @@ fn by_read(random: &mut Random, noise: &Noise) -> Labelled {
     }
 }
 
+/// The branch word of a node with these words, one that is there or a new one, after another at times.
+fn put(random: &mut Random, table: &mut Vec<u32>, words: [u32; 2]) -> u32 {
+    if random.once_in(3) {
+        let any = random.within(0, table.len() / 2) as u32;
+        table.extend([any, if random.once_in(2) { any } else { 0 }]);
+    }
+    let there = table.chunks(2).position(|node| node == words);
+    match there.filter(|_| random.once_in(2)) {
+        Some(node) => node as u32 + 1,
+        None => {
+            table.extend(words);
+            table.len() as u32 / 2
+        }
+    }
+}
+
 /// A labelled tree whose nodes were made in some order, with others between them, and that shares nodes
 /// with itself and with these.
 fn scattered(random: &mut Random) -> Labelled {
     let used = random.within(1, 6);
     let mut table = vec![0; 2 * used];
     sow(random, &mut table, used);
-    // The word of a node with these words, one that is there or a new one, after another at times.
-    let mut put = |random: &mut Random, first: u32, second: u32| {
-        if random.once_in(3) {
-            let any = random.within(0, table.len() / 2) as u32;
-            table.extend([any, if random.once_in(2) { any } else { 0 }]);
-        }
-        let there = table.chunks(2).position(|node| node == [first, second]);
-        match there.filter(|_| random.once_in(2)) {
-            Some(node) => node as u32 + 1,
-            None => {
-                table.extend([first, second]);
-                table.len() as u32 / 2
-            }
-        }
-    };
+    let mut put = |random: &mut Random, words| put(random, &mut table, words);
     let parts = [(); 2].map(|()| random.within(1, used) as u32);
     let early = [(); 2].map(|()| random.once_in(2));
     let mut stems = [0; 2];
     for i in (0..2).filter(|i| early[*i]) {
-        stems[i] = put(random, parts[i], 0);
+        stems[i] = put(random, [parts[i], 0]);
     }
-    let leaves = [(); 2].map(|()| put(random, 0, 0));
-    let k = put(random, leaves[0], 0);
-    let kk = put(random, leaves[1], k);
+    let leaves = [(); 2].map(|()| put(random, [0, 0]));
+    let k = put(random, [leaves[0], 0]);
+    let kk = put(random, [leaves[1], k]);
     for i in (0..2).filter(|i| !early[*i]) {
-        stems[i] = put(random, parts[i], 0);
+        stems[i] = put(random, [parts[i], 0]);
     }
-    let second = put(random, stems[0], kk);
-    let node = put(random, stems[1], second);
+    let second = put(random, [stems[0], kk]);
+    let node = put(random, [stems[1], second]);
     let [node, rule, label] = [node, parts[0], parts[1]].map(|word| word as usize - 1);
     Labelled {
         used: table.len() / 2,

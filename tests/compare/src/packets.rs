@@ -281,9 +281,22 @@ fn wrong_label(random: &mut Random) -> (Vec<u8>, Label) {
     ([parts.packet(), after].concat(), wrong)
 }
 
+/// A packet with a step limit of another length, or above the greatest.
+fn wrong_limit(random: &mut Random, mut parts: Parts) -> Vec<u8> {
+    let value = *random.pick(&[&[0, 1, 0][..], &[0, 0, 0, 1, 0], &[0, 15, 66, 65], &[]]);
+    let label = parts.label.take();
+    parts.limit = None;
+    let mut packet = parts.packet();
+    add_field(&mut packet, 3, value);
+    if let Some(text) = label {
+        add_field(&mut packet, 4, &text);
+    }
+    packet
+}
+
 /// Bytes that begin as a packet, with a byte or a field changed.
 fn damaged(random: &mut Random) -> Vec<u8> {
-    let parts = valid(random);
+    let mut parts = valid(random);
     let mut packet = parts.packet();
     match random.below(12) {
         0 => packet.truncate(random.below(packet.len() + 1)),
@@ -300,32 +313,14 @@ fn damaged(random: &mut Random) -> Vec<u8> {
             let at = random.below(packet.len());
             packet[at] ^= 1 << random.below(8);
         }
-        7 => {
-            // A step limit of another length, or above the greatest.
-            let value = *random.pick(&[&[0, 1, 0][..], &[0, 0, 0, 1, 0], &[0, 15, 66, 65], &[]]);
-            let label = parts.label;
-            packet = Parts {
-                limit: None,
-                label: None,
-                ..parts
-            }
-            .packet();
-            add_field(&mut packet, 3, value);
-            if let Some(text) = label {
-                add_field(&mut packet, 4, &text);
-            }
-        }
+        7 => packet = wrong_limit(random, parts),
         8 => {
             let tag = *random.pick(&[0, 1, 2, 3, 4, 255]);
             add_field(&mut packet, tag, b"0");
         }
         9 => {
-            let count = random.within(7, 10);
-            packet = Parts {
-                arguments: vec![b"0".to_vec(); count],
-                ..parts
-            }
-            .packet();
+            parts.arguments = vec![b"0".to_vec(); random.within(7, 10)];
+            packet = parts.packet();
         }
         10 => {
             let mut other = Vec::new();

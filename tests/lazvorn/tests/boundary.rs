@@ -354,25 +354,39 @@ fn run_passes_over_a_label() {
     refused(&[open_rule, b"\x04\x00\x00"], RULE);
 }
 
-/// The rule λx. Δ, 02 00, is KΔ: 200, three nodes, and Translate wants six frames. Its label is 10, two
-/// nodes, and Label makes seven. Read lays digit p of n at node used + n - 1 - p.
+/// A packet of 14 bytes, and one byte more. The rule λx. Δ, 02 00, is KΔ: 200, three nodes, and Translate
+/// wants six frames. Its label is 10, two nodes, and Label makes seven.
+const WITH_LABEL: &[u8; 15] = b"\x01\x00\x02\x02\x00\x02\x00\x010\x04\x00\x02100";
+
+/// The answer of `label_packet` to this packet.
+const LABELLED_RULE: Numbers = Numbers {
+    refusal: 0,
+    node: 0,
+    used: 12,
+    steps: 0,
+    digits: 13,
+};
+
+fn label_packet_in([words, stack, out]: [usize; 3], packet: &[u8]) -> (Numbers, Lent) {
+    let mut lent = Lent::new(words, stack, out);
+    let (t, s, o) = lent.parts();
+    let numbers = lazvorn::label_packet(t, s, o, packet);
+    (numbers, lent)
+}
+
+/// Holds a call to a refusal; what it leaves.
+fn refused_label_packet(room: [usize; 3], packet: &[u8], refusal: usize) -> Lent {
+    let (numbers, lent) = label_packet_in(room, packet);
+    assert_eq!(numbers, refused(refusal, 0));
+    lent
+}
+
+/// Read lays digit p of n at node used + n - 1 - p.
 #[test]
 fn label_packet() {
-    let call = |words, stack, out, packet: &[u8]| {
-        let mut lent = Lent::new(words, stack, out);
-        let (t, s, o) = lent.parts();
-        let numbers = lazvorn::label_packet(t, s, o, packet);
-        (numbers, lent)
-    };
-    let bytes = b"\x01\x00\x02\x02\x00\x02\x00\x010\x04\x00\x02100";
-    let packet = &bytes[..14];
-    let (numbers, lent) = call(25, 20, 14, packet);
-    let labelled = Numbers {
-        used: 12,
-        digits: 13,
-        ..Numbers::default()
-    };
-    assert_eq!(numbers, labelled);
+    let packet = &WITH_LABEL[..14];
+    let (numbers, lent) = label_packet_in([25, 20, 14], packet);
+    assert_eq!(numbers, LABELLED_RULE);
     // The rule's fork is node 2 and the label's stem node 4. Then leaf, its stem, their fork KK, the
     // rule's stem, its fork with KK, the label's stem, and the fork of this and that fork.
     assert_eq!(
@@ -383,29 +397,37 @@ fn label_packet() {
     assert_eq!(lent.out[..14], *b"2110212002010\xa5");
     lent.nothing_beyond();
     lent.stack_is_zero();
-    assert_eq!(call(24, 18, 13, packet).0, labelled);
+    assert_eq!(label_packet_in([24, 18, 13], packet).0, LABELLED_RULE);
+    let most = [131_072, 65_536, 65_535];
+    assert_eq!(label_packet_in(most, packet).0, LABELLED_RULE);
+}
 
-    let refused = |[words, stack, out]: [usize; 3], packet: &[u8], number| {
-        let (numbers, lent) = call(words, stack, out, packet);
-        assert_eq!(numbers, refused(number, 0));
-        lent
+#[test]
+fn label_packet_refused_by_its_stages() {
+    let packet = &WITH_LABEL[..14];
+    let undone = |room, refusal, nodes| {
+        refused_label_packet(room, packet, refusal).is_undone(nodes);
     };
     // 8 by Label, by Read, by Translate; 9 by Translate; 10 by Write, which made all twelve.
-    refused([23, 20, 14], packet, NODES).is_undone(5);
-    refused([9, 20, 14], packet, NODES).is_undone(3);
-    refused([5, 20, 14], packet, NODES).is_undone(0);
-    refused([0, 20, 14], packet, NODES).is_undone(0);
-    refused([25, 17, 14], packet, FRAMES).is_undone(0);
-    refused([25, 0, 14], packet, FRAMES).is_undone(0);
-    refused([25, 20, 12], packet, OUT).is_undone(12);
-    refused([25, 20, 0], packet, OUT).is_undone(12);
+    undone([23, 20, 14], NODES, 5);
+    undone([9, 20, 14], NODES, 3);
+    undone([5, 20, 14], NODES, 0);
+    undone([0, 20, 14], NODES, 0);
+    undone([25, 17, 14], FRAMES, 0);
+    undone([25, 0, 14], FRAMES, 0);
+    undone([25, 20, 12], OUT, 12);
+    undone([25, 20, 0], OUT, 12);
     // 9 by Read: six forks, each in the first branch, leave seven trees pending.
     let deep = [&packet[..9], b"\x04\x00\x0d2222220000000"].concat();
-    refused([46, 20, 24], &deep, FRAMES).is_undone(3);
-    assert_eq!(call(46, 21, 24, &deep).0.used, 23);
+    refused_label_packet([46, 20, 24], &deep, FRAMES).is_undone(3);
+    assert_eq!(label_packet_in([46, 21, 24], &deep).0.used, 23);
+}
 
-    let unchanged = |room, packet: &[u8], number| {
-        let lent = refused(room, packet, number);
+#[test]
+fn label_packet_refused_by_its_checks() {
+    let packet = &WITH_LABEL[..14];
+    let unchanged = |room, packet: &[u8], refusal| {
+        let lent = refused_label_packet(room, packet, refusal);
         assert_eq!(lent, lent.as_found());
     };
     let room = [25, 20, 14];
@@ -413,9 +435,8 @@ fn label_packet() {
     unchanged([25, 65_537, 14], packet, LIMITS);
     unchanged([25, 20, 65_536], packet, LIMITS);
     unchanged([131_073, 20, 14], &[], LIMITS);
-    assert_eq!(call(131_072, 65_536, 65_535, packet).0, labelled);
     // A byte more or less, no label, no byte; without memory too.
-    unchanged(room, bytes, PACKET);
+    unchanged(room, WITH_LABEL, PACKET);
     unchanged(room, &packet[..13], PACKET);
     unchanged(room, &packet[..9], PACKET);
     unchanged(room, &[], PACKET);
@@ -432,7 +453,7 @@ fn label_packet() {
     );
 }
 
-/// Node 9 is the rule at node 2 labelled with node 1, as Label makes it in the test above.
+/// Node 9 is the rule at node 2 labelled with node 1, as Label makes it in the test `label`.
 const LABELLED: [u32; 20] = [0, 0, 1, 0, 1, 2, 0, 0, 4, 0, 4, 5, 3, 0, 7, 6, 2, 0, 9, 8];
 
 fn parts(rule: usize, used: usize, label: usize) -> Parts {

@@ -4,8 +4,9 @@
 //!
 //! A rule f of m nodes labelled with a text t of n digits is Δ(Δt)(Δ(Δf)(KK)): 2 1 t 2 1 f 2010. It uses
 //! m + n + 7 nodes and has one digit more. So of 8,192 nodes no text has more than 8,193 digits: the
-//! 16,384 out bytes suffice, and 10 cannot come. Nor can 9 but from Translate: 4,097 trees pending take
-//! a label of 8,193 digits, and that is 8.
+//! 16,384 out bytes suffice, and 10 cannot come. Nor can 9 but from Translate: for Read, 4,097 trees
+//! pending take a label of 8,193 digits, and that is 8; Write holds one frame beside those of t's forks,
+//! no more than Read had for the trees pending, or beside those of f's, where Translate had two a node.
 
 use crate::{
     case, chain, field, labelled, limited, packet, printed, refused, same, shown, stems, Case,
@@ -17,6 +18,9 @@ use std::path::Path;
 /// Document 01's rule, 212101021010, labelled with 10: 12 + 2 + 7 nodes.
 const TEXT: &str = "2110212121010210102010";
 const LINE: &str = "0 0 21 2110212121010210102010";
+
+/// A variable whose abstraction lies outside the rule.
+const OPEN_RULE: &[u8] = &[2, 3, 1];
 
 /// "checks the packet alike, then passes over arguments": the step limit and what the rule would do with
 /// them do not matter.
@@ -36,15 +40,14 @@ fn passed_over() -> Vec<Case> {
     ]
 }
 
-/// 6, "a packet without tag 4 is 6 to it", 5, 4 for the arguments and the label.
-fn checks() -> Vec<Case> {
+/// "a packet without tag 4 is 6 to it", before 5 and 4; and 6 for fields that are out of place or broken.
+fn broken_packets() -> Vec<Case> {
     let paper = || packet(DOUBLE, &["0"]);
-    let open_rule = || packet(&[2, 3, 1], &[]);
     let (label, limit) = (|| field(4, b"10"), field(3, &[0, 0, 0, 10]));
     vec![
         refused("no label", paper(), 6),
         refused("no label, a limit", limited(DOUBLE, &["0"], 10), 6),
-        refused("no label, an open rule", open_rule(), 6),
+        refused("no label, an open rule", packet(OPEN_RULE, &[]), 6),
         refused("no label, a broken argument", packet(DOUBLE, &["1"]), 6),
         refused("a label alone", label(), 6),
         refused(
@@ -74,6 +77,14 @@ fn checks() -> Vec<Case> {
             labelled(limited(DOUBLE, &[], 1_000_001), "10"),
             6,
         ),
+    ]
+}
+
+/// 5, then 4 for the arguments and the label.
+fn broken_values() -> Vec<Case> {
+    let paper = || packet(DOUBLE, &["0"]);
+    let open_rule = || packet(OPEN_RULE, &[]);
+    vec![
         refused("an open rule", labelled(open_rule(), "10"), 5),
         refused(
             "an open rule, a broken label",
@@ -182,7 +193,13 @@ fn label_and_run(lazvorn: &Path, label_packet: &Path) -> bool {
 }
 
 pub fn compare(lazvorn: &Path, label_packet: &Path) -> bool {
-    let parts = [passed_over(), checks(), lengths(), room()];
+    let parts = [
+        passed_over(),
+        broken_packets(),
+        broken_values(),
+        lengths(),
+        room(),
+    ];
     let cases: Vec<Case> = parts.into_iter().flatten().collect();
     let line =
         |case: &Case| labelled_line(&second::labelled(&case.packet, second::PROGRAM, PAPERS));

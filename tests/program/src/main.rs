@@ -322,16 +322,13 @@ fn steps() -> Vec<Case> {
 /// beside it as without; and with a label of 16,376 digits alone, twice as many as there are nodes, it
 /// is a packet of 16,384 bytes that succeeds. On eight leaves it is drop, leaf, stem, drop, leaf, stem,
 /// drop, leaf: 8 steps and 5 nodes beside 3 + 8.
-fn labels() -> Vec<Case> {
+fn labels_passed_over() -> Vec<Case> {
     let whole = |name, packet, line| case(name, labelled(packet, "10"), line);
-    let paper = || packet(DOUBLE, &["0"]);
-    let label = || field(4, b"10");
     let longest = labelled(packet(LEAF, &[]), &stems(16_376));
     assert_eq!(longest.len(), 16_384);
     let longer = labelled(packet(LEAF, &[]), &stems(16_377));
-    let broken_rule = || packet(&[2, 3, 1], &[]);
     vec![
-        whole("a label", paper(), "0 10 18 10"),
+        whole("a label", packet(DOUBLE, &["0"]), "0 10 18 10"),
         whole(
             "a label and a limit",
             limited(DOUBLE, &["0"], 10),
@@ -356,6 +353,14 @@ fn labels() -> Vec<Case> {
         ),
         case("16,384 bytes with a label", longest, "0 0 3 200"),
         refused("16,385 bytes with a label", longer, 6),
+    ]
+}
+
+/// "checks that text after the arguments' texts" ([1]): 4, where nothing before it is refused.
+fn labels_not_whole() -> Vec<Case> {
+    let paper = || packet(DOUBLE, &["0"]);
+    let broken_rule = || packet(&[2, 3, 1], &[]);
+    vec![
         refused("a label that is not whole", labelled(paper(), "1"), 4),
         refused("an empty label", labelled(paper(), ""), 4),
         refused(
@@ -373,6 +378,14 @@ fn labels() -> Vec<Case> {
             labelled(labelled(broken_rule(), ""), ""),
             6,
         ),
+    ]
+}
+
+/// 6: a second label, anything else after a label, or a ninth argument before it.
+fn labels_out_of_place() -> Vec<Case> {
+    let paper = || packet(DOUBLE, &["0"]);
+    let label = || field(4, b"10");
+    vec![
         refused("two labels", labelled(labelled(paper(), "10"), "10"), 6),
         refused(
             "a label before the limit",
@@ -464,7 +477,9 @@ fn compare(program: &Path) -> bool {
         frames_by_apply(),
         endless(),
         steps(),
-        labels(),
+        labels_passed_over(),
+        labels_not_whole(),
+        labels_out_of_place(),
     ];
     let cases: Vec<Case> = parts.into_iter().flatten().collect();
     let line = |case: &Case| second::line(&second::run(&case.packet, second::PROGRAM, PAPERS));
