@@ -512,9 +512,13 @@ fn unlabel() {
     assert_eq!(call(&broken, 22, 11, 9), parts(2, 11, 1));
 }
 
+/// `unlabel` of the last node of a table.
+fn unlabel_last(words: &[u32]) -> Parts {
+    lazvorn::unlabel(words, words.len() / 2, words.len() / 2 - 1)
+}
+
 #[test]
 fn unlabel_by_the_form() {
-    let call = |words: &[u32]| lazvorn::unlabel(words, words.len() / 2, words.len() / 2 - 1);
     // One node of the form is another: its kind, or the node that a branch is.
     for (node, words) in [
         (9, [9, 0]),
@@ -543,16 +547,22 @@ fn unlabel_by_the_form() {
         let mut table = LABELLED;
         table[2 * node..2 * node + 2].copy_from_slice(&words);
         let refused = refused_parts(NOT_LABELLED, 10);
-        assert_eq!(call(&table), refused, "{node} {words:?}");
+        assert_eq!(unlabel_last(&table), refused, "{node} {words:?}");
     }
-    // Shared nodes: K is the leaf's stem in KK and Δf and Δt; then f and t are KK itself.
-    assert_eq!(call(&[0, 0, 1, 0, 1, 2, 2, 3, 2, 4]), parts(0, 5, 0));
-    assert_eq!(call(&[0, 0, 1, 0, 1, 2, 3, 0, 4, 3, 4, 5]), parts(2, 6, 2));
+}
+
+#[test]
+fn unlabel_where_nodes_are_shared() {
+    // K is the leaf's stem in KK and Δf and Δt; then f and t are KK itself.
+    let stem_shared = [0, 0, 1, 0, 1, 2, 2, 3, 2, 4];
+    assert_eq!(unlabel_last(&stem_shared), parts(0, 5, 0));
+    let of_kk = [0, 0, 1, 0, 1, 2, 3, 0, 4, 3, 4, 5];
+    assert_eq!(unlabel_last(&of_kk), parts(2, 6, 2));
     // KK of two leaves, whose nodes are f and t too, made before Δf; then Δt made first.
     let two_leaves = [0, 0, 0, 0, 2, 0, 1, 3, 1, 0, 5, 4, 2, 0, 7, 6];
-    assert_eq!(call(&two_leaves), parts(0, 8, 1));
+    assert_eq!(unlabel_last(&two_leaves), parts(0, 8, 1));
     let label_first = [0, 0, 1, 0, 0, 0, 3, 0, 1, 4, 3, 0, 6, 5, 2, 7];
-    assert_eq!(call(&label_first), parts(2, 8, 0));
+    assert_eq!(unlabel_last(&label_first), parts(2, 8, 0));
 }
 
 /// What Label makes, and what Read makes of the text of a labelled tree, is taken apart again.
