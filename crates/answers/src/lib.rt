@@ -18,7 +18,7 @@ use unlabel::Unlabelled;
 fn refused(used: usize, refusal: Refusal) -> [usize; 5]
     ensures { λ r. ⌜ r ≡ listed (refusedNumbers used refusal) ⌝ }
 {
-    let n = checks::number(refusal);
+    let n = refusals::number(refusal);
     [n, 0, used, 0, 0]
 }
 
@@ -63,7 +63,7 @@ pub fn unlabelled(used: usize, answer: Unlabelled) -> [usize; 6]
 {
     match answer {
         Unlabelled::Parts { rule, label } => [0, rule, used, 0, 0, label],
-        Unlabelled::Refused(refusal) => [checks::number(refusal), 0, used, 0, 0, 0],
+        Unlabelled::Refused(refusal) => [refusals::number(refusal), 0, used, 0, 0, 0],
     }
 }
 
@@ -73,6 +73,6 @@ pub fn encoded(answer: Encoded) -> [usize; 2]
 {
     match answer {
         Encoded::Bytes(n) => [0, n],
-        Encoded::Refused(refusal) => [checks::number(refusal), 0],
+        Encoded::Refused(refusal) => [refusals::number(refusal), 0],
     }
 }

@@ -1,11 +1,10 @@
-// The checks in code: 1 and 2 at entry, 8 and 9 before a tree is laid out, and the refusals' numbers. The definitions and the laws that callers cite
+// The checks in code: 1 and 2 at entry, 8 and 9 before a tree is laid out. The definitions and the laws that callers cite
 // are in the crate `table`; specs/ says what the code's own values mean in their terms.
 ghost use mathlib.Core.Path.{_≡_};
 ghost use Prim.Native.Nat.{_*_, _≤_, _<_};
 ghost use lib.ListN.{length};
 ghost use Rattle.table.specs.Nodes.{broken, sound, capacity};
 ghost use Rattle.table.specs.Outcome.{atEntry};
-ghost use Rattle.table.specs.Refusal.{number};
 ghost use Rattle.checks.specs.Code.{refusalOf, checkedWith, roomFor};
 use table::Refusal;
 
@@ -13,26 +12,6 @@ use table::Refusal;
 pub enum Checked {
     Passed,
     Refused(Refusal),
-}
-
-// The number of a refusal.
-pub fn number(refusal: Refusal) -> usize
-    ensures { λ r. ⌜ r ≡ number refusal ⌝ }
-{
-    match refusal {
-        Refusal::Limits => 1,
-        Refusal::Broken => 2,
-        Refusal::Node => 3,
-        Refusal::Text => 4,
-        Refusal::Rule => 5,
-        Refusal::Packet => 6,
-        Refusal::Steps => 7,
-        Refusal::Nodes => 8,
-        Refusal::Frames => 9,
-        Refusal::Out => 10,
-        Refusal::Label => 11,
-        Refusal::RuleText => 12,
-    }
 }
 
 // Whether node i with the branch words a and b is broken. The last test is a = 0 < b, since b is a word; no test of a sound node depends on

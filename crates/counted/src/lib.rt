@@ -15,7 +15,7 @@ use table::Refusal;
 fn refused_uses(used: usize, refusal: Refusal) -> [usize; 10]
     ensures { λ r. ⌜ r ≡ listedUses (refusedNumbers used refusal) noUses ⌝ }
 {
-    let n = checks::number(refusal);
+    let n = refusals::number(refusal);
     [n, 0, used, 0, 0, 0, 0, 0, 0, 0]
 }
 

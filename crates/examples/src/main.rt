@@ -40,7 +40,7 @@ fn answer(packet: &[u8]) {
             digits,
             uses: _,
         } => print(0, steps, used, &out, digits),
-        Ran::Refused(refusal) => print(checks::number(refusal), 0, 0, b"-", 1),
+        Ran::Refused(refusal) => print(refusals::number(refusal), 0, 0, b"-", 1),
     }
 }
 

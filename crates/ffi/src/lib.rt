@@ -10,7 +10,7 @@ ghost use Rattle.ternary.specs.Read as reading;
 ghost use Rattle.ternary.specs.Write as writing;
 ghost use Rattle.translation.specs.Translate as translating;
 ghost use Rattle.applying.specs.Apply as applying;
-ghost use Rattle.label.specs.Label as labelling;
+ghost use Rattle.labelled.specs.Label as labelling;
 ghost use Rattle.labelling.specs.LabelPacket.{labelPacket};
 ghost use Rattle.unlabel.specs.Unlabel as unlabelling;
 ghost use Rattle.running.specs.Run as running;

@@ -1,6 +1,2 @@
--- The theorems of Label, and the laws that the proofs of its functions cite.
-pub mod Labelled
-pub mod Labels
-pub mod Lacks
+-- The laws that the proofs of the functions of Label cite.
 pub mod Ways
-pub mod Vectors

@@ -11,7 +11,7 @@ use Rattle.table.specs.Outcome.{whole, placed, atEntry}
 use Rattle.table.specs.declared.Refusal.the-variants.{Nodes}
 use Rattle.table.specs.declared.Refusal.the-variants as refusal
 use Rattle.table.specs.declared.Made.the-variants.{Node, Refused}
-use Rattle.label.specs.Label.{nodes, labelRule, label}
+use Rattle.labelled.specs.Label.{nodes, labelRule, label}
 use Rattle.label.specs.Code.{constantNodes, labelNodes}
 
 -- nodes made one after another

@@ -1,4 +1,2 @@
--- Label, what is claimed of it, and what its code's own values say. Assumes nothing: these are definitions.
-pub mod Label
-pub mod Claims
+-- What the values of Label's code say. Assumes nothing: these are definitions.
 pub mod Code

@@ -1,4 +1,5 @@
-// Label: a rule's tree with a label tree in it. The definitions are in specs/, the laws that callers cite in proofs/.
+// Label: a rule's tree with a label tree in it. The definition and its theorems are in the crate `labelled`; specs/ says what the code's own values
+// mean in its terms.
 ghost use mathlib.Core.Path.{_≡_};
 ghost use Prim.Native.Nat.{_+_, _≤_, _<_};
 ghost use lib.ListN.{length};
@@ -6,7 +7,7 @@ ghost use mathlib.Core.List.{[]};
 ghost use Rattle.table.specs.Nodes.{capacity};
 ghost use Rattle.table.specs.Outcome.{whole};
 ghost use Rattle.nodes.specs.Code.{placedBy};
-ghost use Rattle.label.specs.Label as labelling;
+ghost use Rattle.labelled.specs.Label as labelling;
 ghost use Rattle.label.specs.Code.{constantNodes, labelNodes};
 use checks::Checked;
 use nodes::NewNode;

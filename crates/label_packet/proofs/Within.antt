@@ -8,7 +8,7 @@ use Rattle.calculus.specs.declared.Uses.{Uses}
 use Rattle.calculus.specs.Abstraction.{ruleTree}
 use Rattle.ternary.specs.Text.{text}
 use Rattle.table.specs.Outcome.{Outcome, wholeOut}
-use Rattle.label.specs.Label.{labelled}
+use Rattle.labelled.specs.Label.{labelled}
 use Rattle.running.specs.declared.Ran.{Ran}
 use Rattle.running.specs.declared.Ran.the-variants.{Text}
 use Rattle.labelling.specs.LabelPacket.{labelPacket}

@@ -28,7 +28,7 @@ fn answer(packet: &[u8]) {
             digits,
             uses: _,
         } => print(0, steps as u64, used as u64, &out[..digits]),
-        Ran::Refused(refusal) => print(checks::number(refusal) as u64, 0, 0, b"-"),
+        Ran::Refused(refusal) => print(refusals::number(refusal) as u64, 0, 0, b"-"),
     }
 }
 

@@ -16,8 +16,8 @@ use Rattle.table.specs.declared.Made.the-variants as made
 use Rattle.table.proofs.Words.{zero-one}
 use Rattle.ternary.specs.Read.{readable, readTree}
 use Rattle.translation.specs.Translate.{translateRule}
-use Rattle.label.specs.Label.{labelRule, label}
-use Rattle.label.proofs.Labels.{label-gives, entered-label}
+use Rattle.labelled.specs.Label.{labelRule, label}
+use Rattle.labelled.proofs.Labels.{label-gives, entered-label}
 use Rattle.fields.specs.Packet.{Packet, packet}
 use Rattle.packet.specs.Code.{valueAt, labelAt, packetAt, formOf}
 use Rattle.packet.specs.declared.Form.the-variants as form

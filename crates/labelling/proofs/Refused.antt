@@ -17,7 +17,7 @@ use Rattle.table.specs.declared.Refusal.the-variants as refusal
 use Rattle.table.proofs.Words.{zero-one}
 use Rattle.ternary.specs.Write.{lacks}
 use Rattle.ternary.specs.Held.{Spent, no-out, no-frame}
-use Rattle.label.specs.Label.{labelled}
+use Rattle.labelled.specs.Label.{labelled}
 use Rattle.fields.specs.Packet.{Packet, packet, IsPacket, Bytes}
 use Rattle.fields.proofs.Exact.{packet-found, packet-exact}
 use Rattle.running.specs.Run.{texts, ranNumbers}

@@ -24,10 +24,10 @@ use Rattle.table.proofs.Entry.{enters, lacks-entry}
 use Rattle.ternary.specs.Text.{text}
 use Rattle.ternary.specs.Read.{read, readable}
 use Rattle.translation.specs.Translate.{translate}
-use Rattle.label.specs.Label.{labelled, label}
-use Rattle.label.specs.Claims.{LabelLacks, at-entry, not-in-use, no-nodes}
-use Rattle.label.proofs.Labels.{label-gives}
-use Rattle.label.proofs.Lacks.{label-lacks, label-refused}
+use Rattle.labelled.specs.Label.{labelled, label}
+use Rattle.labelled.specs.Claims.{LabelLacks, at-entry, not-in-use, no-nodes}
+use Rattle.labelled.proofs.Labels.{label-gives}
+use Rattle.labelled.proofs.Lacks.{label-lacks, label-refused}
 use Rattle.running.specs.Run.{afterMade, writes}
 use Rattle.running.specs.Claims.{Fit, TranslateHad, ReadsHad, all-read, and-read}
 use Rattle.running.specs.declared.Ran.{Ran}
@@ -75,7 +75,7 @@ module _ {w s o : List ℕ} (fit : Fit w s o) (t : Term) (v : List ℕ) (x : Tre
       go : (a : Made) → r .answer ≡ a → LabelStaged w s o t v x (afterMade (z .used) o (Rattle.table.specs.Outcome.whole (r .answer) (r .table) y) (λ w′ u′ s′ v. writes w′ u′ s′ o v noUses) a)
       go (made.Node i u) e = end (writing fit stands root noUses)
         where
-          g : Rattle.label.specs.Claims.Labels (z .words) (z .used) f n i u
+          g : Rattle.labelled.specs.Claims.Labels (z .words) (z .used) f n i u
           g = label-gives (z .words) (z .used) f n i u e
 
           z′ : Table

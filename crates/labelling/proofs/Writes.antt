@@ -14,7 +14,7 @@ use Rattle.table.specs.Outcome.{Outcome}
 use Rattle.table.proofs.Words.{zero-one}
 use Rattle.ternary.specs.Text.{text}
 use Rattle.ternary.proofs.Reading.{readable-some}
-use Rattle.label.specs.Label.{labelled}
+use Rattle.labelled.specs.Label.{labelled}
 use Rattle.fields.specs.Packet.{Packet}
 use Rattle.running.specs.Run.{ranNumbers, ranUses}
 use Rattle.running.specs.declared.Ran.{Ran}

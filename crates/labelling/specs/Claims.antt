@@ -20,7 +20,7 @@ use Rattle.ternary.specs.Text.{text, treeOf}
 use Rattle.ternary.specs.Read.{readable}
 use Rattle.ternary.specs.Write.{lacks}
 use Rattle.ternary.specs.Held.{Spent}
-use Rattle.label.specs.Label.{labelled}
+use Rattle.labelled.specs.Label.{labelled}
 use Rattle.fields.specs.Packet.{Packet, packet}
 use Rattle.running.specs.Run.{texts, ranNumbers, ranUses}
 use Rattle.running.specs.Claims.{Fit, Unreadable, Checked, TranslateStops, TranslateHad, ReadStops, ReadsHad, TooFew}

@@ -8,7 +8,7 @@ use Rattle.table.specs.Outcome.{Outcome, whole, wholeOut, unless}
 use Rattle.table.specs.declared.Refusal.the-variants as refusal
 use Rattle.ternary.specs.Read.{read}
 use Rattle.translation.specs.Translate.{translate}
-use Rattle.label.specs.Label.{label}
+use Rattle.labelled.specs.Label.{label}
 use Rattle.fields.specs.Packet.{Packet, packet}
 use Rattle.running.specs.Run.{afterMade, writes, texts, partsLack, lengthsFit}
 use Rattle.running.specs.declared.Ran.{Ran}

@@ -53,7 +53,7 @@ fn answer(text: &[u8]) {
             let m = spell(&out[..n], &mut line);
             print(0, &line[..m]);
         }
-        Encoded::Refused(refusal) => print(checks::number(refusal) as u64, b"-"),
+        Encoded::Refused(refusal) => print(refusals::number(refusal) as u64, b"-"),
     }
 }
 

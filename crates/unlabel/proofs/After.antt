@@ -15,8 +15,8 @@ use Rattle.table.proofs.Words.{wrote-other, wrote-first, wrote-second, length-w
 use Rattle.table.proofs.Making.{make-node}
 use Rattle.table.proofs.Entry.{entered, enters}
 use Rattle.table.proofs.Laid.{refused-made}
-use Rattle.label.specs.Label.{nodes, labelRule, label}
-use Rattle.label.proofs.Labels.{label-gives, entered-label}
+use Rattle.labelled.specs.Label.{nodes, labelRule, label}
+use Rattle.labelled.proofs.Labels.{label-gives, entered-label}
 use Rattle.unlabel.specs.Unlabel.{left, right, labelNode, ruleNode, unlabel}
 use Rattle.unlabel.specs.declared.Unlabelled.the-variants.{Parts}
 use Rattle.unlabel.proofs.Unlabels.{found-parts}

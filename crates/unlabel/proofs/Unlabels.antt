@@ -15,7 +15,7 @@ use Rattle.table.specs.declared.Refusal.{Refusal}
 use Rattle.table.specs.declared.Refusal.the-variants.{Node, Label}
 use Rattle.table.proofs.Words.{zero-one}
 use Rattle.table.proofs.Entry.{entered, entry-lacks, lacks-entry}
-use Rattle.label.specs.Label.{labelled}
+use Rattle.labelled.specs.Label.{labelled}
 use Rattle.unlabel.specs.Unlabel.{isLabelled, left, right, labelNode, ruleNode, unlabelNode, unlabel}
 use Rattle.unlabel.specs.Claims.{Found, Given, Unlabels, UnlabelLacks, at-entry, not-in-use, not-labelled}
 use Rattle.unlabel.specs.Code.{InUse}

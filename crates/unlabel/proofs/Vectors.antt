@@ -9,7 +9,7 @@ use Rattle.table.specs.Nodes.{lay}
 use Rattle.table.specs.Outcome as outcome
 use Rattle.table.specs.Refusal as refusal
 use Rattle.table.specs.declared.Refusal.the-variants.{Label}
-use Rattle.label.specs.Label.{labelled}
+use Rattle.labelled.specs.Label.{labelled}
 use Rattle.unlabel.specs.Unlabel as unlabelling
 use Rattle.unlabel.specs.Unlabel.{unlabel, unlabelledNumbers}
 use Rattle.unlabel.specs.declared.Unlabelled.the-variants.{Parts, Refused}

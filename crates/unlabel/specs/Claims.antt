@@ -10,7 +10,7 @@ use Rattle.table.specs.Outcome.{atEntry}
 use Rattle.table.specs.Claims.{EntryLacks}
 use Rattle.table.specs.declared.Refusal.{Refusal}
 use Rattle.table.specs.declared.Refusal.the-variants.{Node, Label}
-use Rattle.label.specs.Label.{labelled}
+use Rattle.labelled.specs.Label.{labelled}
 use Rattle.unlabel.specs.Unlabel.{unlabel}
 use Rattle.unlabel.specs.declared.Unlabelled.the-variants.{Parts}
 

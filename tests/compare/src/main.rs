@@ -180,18 +180,11 @@ fn compare_packets(random: &mut Random, noise: &Noise, packets: usize) -> usize 
     differences
 }
 
-fn compare() -> bool {
-    let words: Vec<u64> = std::env::args()
-        .skip(1)
-        .map(|word| word.parse().expect("usage: compare [PACKETS [SEED]]"))
-        .collect();
-    let packets = words.first().map_or(PACKETS, |n| *n as usize);
-    let mut random = Random::new(words.get(1).copied().unwrap_or(20_261_115));
-    let noise = Noise::new(&mut random);
-
-    let mut differences = compare_packets(&mut random, &noise, packets);
+/// Compares calls of each operation; how many differ, and how many refusals were never met.
+fn compare_calls(random: &mut Random, noise: &Noise) -> usize {
+    let mut differences = 0;
     for operation in calls::OPERATIONS {
-        let (counts, more) = calls::compare(&mut random, &noise, operation, CALLS);
+        let (counts, more) = calls::compare(random, noise, operation, CALLS);
         print(operation.name, &counts, 1..=11);
         for number in operation.refusals {
             if counts[*number] == 0 {
@@ -201,22 +194,48 @@ fn compare() -> bool {
         }
         differences += more;
     }
-    differences += compare_texts(&mut random, &noise);
-    let short = beginnings::short(&mut random, &noise);
-    let completed = beginnings::completed(&mut random, &noise, BEGINNINGS);
-    for (what, outcome) in [("short", short), ("completed", completed)] {
-        print(what, &outcome.counts, [4, 8, 9]);
-        differences += outcome.differences;
-    }
-    println!("{differences} differences");
-    differences == 0
+    differences
 }
 
-fn main() {
-    // The model and the second evaluator recurse as deep as trees and frames go.
-    let thread = std::thread::Builder::new().stack_size(1 << 30);
-    let same = thread.spawn(compare).expect("a thread").join();
-    if !matches!(same, Ok(true)) {
-        std::process::exit(1);
+/// Compares texts and their beginnings; how many differ.
+fn compare_beginnings(random: &mut Random, noise: &Noise) -> usize {
+    let short = beginnings::short(random, noise);
+    let completed = beginnings::completed(random, noise, BEGINNINGS);
+    for (what, outcome) in [("short", &short), ("completed", &completed)] {
+        print(what, &outcome.counts, [4, 8, 9]);
     }
+    short.differences + completed.differences
+}
+
+/// Packets are compared beside everything else, each from a seed of its own: the lines of the two may
+/// come in any order.
+fn main() {
+    let words: Vec<u64> = std::env::args()
+        .skip(1)
+        .map(|word| word.parse().expect("usage: compare [PACKETS [SEED]]"))
+        .collect();
+    let packets = words.first().map_or(PACKETS, |n| *n as usize);
+    let seed = words.get(1).copied().unwrap_or(20_261_115);
+    let noise = &Noise::new(&mut Random::new(seed));
+    let of_packets = || compare_packets(&mut Random::new(seed + 1), noise, packets);
+    let of_the_rest = || {
+        let random = &mut Random::new(seed + 2);
+        compare_calls(random, noise)
+            + compare_texts(random, noise)
+            + compare_beginnings(random, noise)
+    };
+    // The model and the second evaluator recurse as deep as trees and frames go.
+    let deep = || std::thread::Builder::new().stack_size(1 << 30);
+    let differences = std::thread::scope(|scope| {
+        let threads = [
+            deep().spawn_scoped(scope, of_packets).expect("a thread"),
+            deep().spawn_scoped(scope, of_the_rest).expect("a thread"),
+        ];
+        threads.map(|thread| thread.join().ok())
+    });
+    let [Some(one), Some(other)] = differences else {
+        std::process::exit(1);
+    };
+    println!("{} differences", one + other);
+    std::process::exit(i32::from(one + other != 0));
 }

@@ -6,8 +6,8 @@ use mathlib.Core.Option.{none}
 use Rattle.table.specs.Outcome.{Entered, whole, atEntry}
 use Rattle.table.specs.declared.Made.the-variants.{Refused}
 use Rattle.table.proofs.Entry.{entered, check-refuses}
-use Rattle.label.specs.Label as labelling
-use Rattle.label.proofs.Labels.{entered-label}
+use Rattle.labelled.specs.Label as labelling
+use Rattle.labelled.proofs.Labels.{entered-label}
 use Rattle.label.proofs.Ways.{no-rule, no-label}
 use borrow.Author.Needs.{needs}
 use Rattle.label.proofs.label.Statement.{statement}

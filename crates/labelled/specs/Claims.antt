@@ -13,7 +13,7 @@ use Rattle.table.specs.Outcome.{atEntry}
 use Rattle.table.specs.declared.Refusal.{Refusal}
 use Rattle.table.specs.declared.Refusal.the-variants.{Node, Nodes}
 use Rattle.table.specs.Claims.{Places, EntryLacks}
-use Rattle.label.specs.Label.{labelled, label}
+use Rattle.labelled.specs.Label.{labelled, label}
 
 -- The refusal of Label, and the table as it leaves it: "1, 2, then 3 for either number. 8: fewer than seven free nodes." (Operations, Label). 8 is met
 -- before a node is made, so every refusal leaves every word as found.

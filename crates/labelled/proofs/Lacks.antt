@@ -17,8 +17,8 @@ use Rattle.table.specs.declared.Made.the-variants.{Refused}
 use Rattle.table.proofs.Words.{and-left, and-right}
 use Rattle.table.proofs.Entry.{entry-lacks}
 use Rattle.table.proofs.Laid.{refused-made}
-use Rattle.label.specs.Label.{nodes, labelRule, label}
-use Rattle.label.specs.Claims.{LabelLacks, at-entry, not-in-use, no-nodes}
+use Rattle.labelled.specs.Label.{nodes, labelRule, label}
+use Rattle.labelled.specs.Claims.{LabelLacks, at-entry, not-in-use, no-nodes}
 
 module _ (w : List ℕ) (u f t : ℕ) (e : Refusal) where
   abbrev Says : Outcome Made → Type 0

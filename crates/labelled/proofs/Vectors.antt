@@ -6,8 +6,8 @@ use Rattle.table.specs.Nodes as table
 use Rattle.table.specs.Outcome as outcome
 use Rattle.table.specs.Outcome.{whole}
 use Rattle.table.specs.declared.Made.the-variants.{Node}
-use Rattle.label.specs.Label as labelling
-use Rattle.label.specs.Label.{label}
+use Rattle.labelled.specs.Label as labelling
+use Rattle.labelled.specs.Label.{label}
 
 -- "leaf; its stem; fork of these; stem of f; fork of it and the third; stem of t; fork of it and the fifth": f is the stem at node 1, t the leaf at
 -- node 0, and the words beyond the new nodes are as found

@@ -7,9 +7,9 @@ use Rattle.calculus.specs.Uses.{oneStem, oneDrop, oneSpread, _⊕_, steps}
 use Rattle.calculus.specs.Rules.{Apply, by-stem, by-drop, by-spread}
 use Rattle.calculus.specs.Abstraction.{Combination, app, term}
 use Rattle.calculus.specs.Equations.{Equal, same, joined, inside, of-drop, of-spread}
-use Rattle.label.specs.Label.{labelled}
+use Rattle.labelled.specs.Label.{labelled}
 use Rattle.calculus.proofs.Counts.{same-uses}
-use Rattle.label.specs.Claims.{labelUses, Both}
+use Rattle.labelled.specs.Claims.{labelUses, Both}
 
 -- "By the equations, this on any argument equals f on it." (Operations, Label) The argument is any term, whether or not it has a tree.
 pub labelled-equal : (f t : Tree) (z : Combination) → Equal (app (term (labelled f t)) z) (app (term f) z)

@@ -21,8 +21,8 @@ use Rattle.table.proofs.Trees.{extends-refl, extends-trans}
 use Rattle.table.proofs.Making.{has, stays, stem-of, fork-of, make-used, make-leaf}
 use Rattle.table.proofs.Entry.{entered, enters}
 use Rattle.table.proofs.Laid.{refused-made}
-use Rattle.label.specs.Label.{labelled, nodes, labelRule, label}
-use Rattle.label.specs.Claims.{Labels}
+use Rattle.labelled.specs.Label.{labelled, nodes, labelRule, label}
+use Rattle.labelled.specs.Claims.{Labels}
 
 -- z is t with k nodes more
 record Grown (t : Table) (k : ℕ) (z : Table) : Type 0 where

@@ -1,8 +1,8 @@
--- `checks::number` meets its contract: each refusal has its number. Assumes nothing.
+-- `refusals::number` meets its contract: each refusal has its number. Assumes nothing.
 use Rattle.table.specs.Refusal.{number}
 use borrow.Author.Needs.{needs}
-use Rattle.checks.proofs.number.Statement.{statement}
-use Rattle.checks.proofs.number.Tie as tie
+use Rattle.refusals.proofs.number.Statement.{statement}
+use Rattle.refusals.proofs.number.Tie as tie
 
 enum-told : tie.Need-enum-told
 enum-told c = search needs
