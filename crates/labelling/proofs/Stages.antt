@@ -12,7 +12,7 @@ use Rattle.calculus.specs.Term.{Term}
 use Rattle.calculus.specs.Bytes.{rule}
 use Rattle.calculus.specs.Abstraction.{ruleTree}
 use Rattle.table.specs.Nodes.{Table, Sound}
-use Rattle.table.specs.Outcome.{Outcome, Entered, wholeOut, zeros}
+use Rattle.table.specs.Outcome.{Outcome, Entered, whole, wholeOut, zeros}
 use Rattle.table.specs.declared.Refusal.{Refusal}
 use Rattle.table.specs.declared.Made.{Made}
 use Rattle.table.specs.declared.Made.the-variants as made
@@ -25,7 +25,7 @@ use Rattle.ternary.specs.Text.{text}
 use Rattle.ternary.specs.Read.{read, readable}
 use Rattle.translation.specs.Translate.{translate}
 use Rattle.labelled.specs.Label.{labelled, label}
-use Rattle.labelled.specs.Claims.{LabelLacks, at-entry, not-in-use, no-nodes}
+use Rattle.labelled.specs.Claims.{LabelLacks, at-entry, not-in-use, no-nodes, Labels}
 use Rattle.labelled.proofs.Labels.{label-gives}
 use Rattle.labelled.proofs.Lacks.{label-lacks, label-refused}
 use Rattle.running.specs.Run.{afterMade, writes}
@@ -72,10 +72,10 @@ module _ {w s o : List ℕ} (fit : Fit w s o) (t : Term) (v : List ℕ) (x : Tre
       lacked (not-in-use q h) = absurd (h (hf .inside) (hn .inside))
       lacked (no-nodes q h k l) = rw used (in-label had read-all (omega (arith, long)))
 
-      go : (a : Made) → r .answer ≡ a → LabelStaged w s o t v x (afterMade (z .used) o (Rattle.table.specs.Outcome.whole (r .answer) (r .table) y) (λ w′ u′ s′ v. writes w′ u′ s′ o v noUses) a)
+      go : (a : Made) → r .answer ≡ a → LabelStaged w s o t v x (afterMade (z .used) o (whole (r .answer) (r .table) y) (λ w′ u′ s′ v. writes w′ u′ s′ o v noUses) a)
       go (made.Node i u) e = end (writing fit stands root noUses)
         where
-          g : Rattle.labelled.specs.Claims.Labels (z .words) (z .used) f n i u
+          g : Labels (z .words) (z .used) f n i u
           g = label-gives (z .words) (z .used) f n i u e
 
           z′ : Table

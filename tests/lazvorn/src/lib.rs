@@ -346,22 +346,45 @@ pub fn unlabel(table: &[u32], used: usize, node: usize) -> Parts {
     }
 }
 
+/// An exported function that reads a packet and writes N numbers.
+type OnPacket<const N: usize> = unsafe extern "C" fn(
+    *mut u32,
+    usize,
+    *mut u32,
+    usize,
+    *mut u8,
+    usize,
+    *const u8,
+    usize,
+    *mut [usize; N],
+);
+
+/// Calls such a function with what it is lent, each slice as a pointer and a count.
+unsafe fn on_packet<const N: usize>(
+    call: OnPacket<N>,
+    table: &mut [u32],
+    stack: &mut [u32],
+    out: &mut [u8],
+    packet: &[u8],
+    answer: *mut [usize; N],
+) {
+    call(
+        table.as_mut_ptr(),
+        table.len(),
+        stack.as_mut_ptr(),
+        stack.len(),
+        out.as_mut_ptr(),
+        out.len(),
+        packet.as_ptr(),
+        packet.len(),
+        answer,
+    )
+}
+
 /// Runs a packet with the table taken as empty, and writes the outcome's text to `out`. The step limit
 /// of a packet that names none is 100,000. A label is passed over, if its text is whole.
 pub fn run(table: &mut [u32], stack: &mut [u32], out: &mut [u8], packet: &[u8]) -> Counted {
-    counted(|answer| unsafe {
-        raw::lazvorn_run(
-            table.as_mut_ptr(),
-            table.len(),
-            stack.as_mut_ptr(),
-            stack.len(),
-            out.as_mut_ptr(),
-            out.len(),
-            packet.as_ptr(),
-            packet.len(),
-            answer,
-        )
-    })
+    counted(|answer| unsafe { on_packet(raw::lazvorn_run, table, stack, out, packet, answer) })
 }
 
 /// Labels a packet's rule with its label, with the table taken as empty, and writes the labelled tree's
@@ -373,17 +396,7 @@ pub fn label_packet(
     packet: &[u8],
 ) -> Numbers {
     numbers(|answer| unsafe {
-        raw::lazvorn_label_packet(
-            table.as_mut_ptr(),
-            table.len(),
-            stack.as_mut_ptr(),
-            stack.len(),
-            out.as_mut_ptr(),
-            out.len(),
-            packet.as_ptr(),
-            packet.len(),
-            answer,
-        )
+        on_packet(raw::lazvorn_label_packet, table, stack, out, packet, answer)
     })
 }
 
