@@ -3,16 +3,16 @@
 ghost use mathlib.Core.Path.{_≡_};
 ghost use Rattle.table.specs.Refusal.{refusedNumbers, madeNumbers};
 ghost use Rattle.ternary.specs.Write as writing;
-ghost use Rattle.unlabel.specs.Unlabel as unlabelling;
+ghost use Rattle.labelled.specs.Unlabel as unlabelling;
 ghost use Rattle.running.specs.Run as running;
 ghost use Rattle.grammar.specs.Outcome as grammar;
 ghost use Rattle.answers.specs.Listed.{listed};
 use grammar::Encoded;
+use labelled::Unlabelled;
 use running::Ran;
 use table::Made;
 use table::Refusal;
 use ternary::Written;
-use unlabel::Unlabelled;
 
 // The numbers of a refusal, with `used` as at entry.
 fn refused(used: usize, refusal: Refusal) -> [usize; 5]

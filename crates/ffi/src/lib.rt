@@ -12,7 +12,7 @@ ghost use Rattle.translation.specs.Translate as translating;
 ghost use Rattle.applying.specs.Apply as applying;
 ghost use Rattle.labelled.specs.Label as labelling;
 ghost use Rattle.labelling.specs.LabelPacket.{labelPacket};
-ghost use Rattle.unlabel.specs.Unlabel as unlabelling;
+ghost use Rattle.labelled.specs.Unlabel as unlabelling;
 ghost use Rattle.running.specs.Run as running;
 ghost use Rattle.grammar.specs.Outcome as grammar;
 ghost use Rattle.ffi.specs.Boundary.{numbered, answered, counted};

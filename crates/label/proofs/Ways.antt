@@ -11,8 +11,9 @@ use Rattle.table.specs.Outcome.{whole, placed, atEntry}
 use Rattle.table.specs.declared.Refusal.the-variants.{Nodes}
 use Rattle.table.specs.declared.Refusal.the-variants as refusal
 use Rattle.table.specs.declared.Made.the-variants.{Node, Refused}
+use Rattle.table.proofs.Making.{make-node}
 use Rattle.labelled.specs.Label.{nodes, labelRule, label}
-use Rattle.label.specs.Code.{constantNodes, labelNodes}
+use Rattle.label.specs.Code.{constantNodes, spreadNodes}
 
 -- nodes made one after another
 pub constant-by : (t : Table) {n1 n2 n3 : Placed} → n1 ≡ make t 0 0 → n2 ≡ make (n1 .table) (n1 .node + 1) 0 → n3 ≡ make (n2 .table) (n1 .node + 1) (n2 .node + 1)
@@ -20,31 +21,35 @@ pub constant-by : (t : Table) {n1 n2 n3 : Placed} → n1 ≡ make t 0 0 → n2 �
 unfolding constantNodes
 constant-by t a b c = c ∙ rw (b, a)
 
-pub label-by : (t : Table) {n4 n5 n6 n7 : Placed} (k f l : ℕ) → n4 ≡ make t (f + 1) 0 → n5 ≡ make (n4 .table) (n4 .node + 1) (k + 1) → n6 ≡ make (n5 .table) (l + 1) 0
-    → n7 ≡ make (n6 .table) (n6 .node + 1) (n5 .node + 1) → n7 ≡ labelNodes t k f l
-unfolding labelNodes
-label-by t k f l a b c d = d ∙ rw (c, b, a)
+pub spread-by : (t : Table) {m n : Placed} (p y : ℕ) → m ≡ make t (p + 1) 0 → n ≡ make (m .table) (m .node + 1) (y + 1) → n ≡ spreadNodes t p y
+unfolding spreadNodes
+spread-by t p y a b = b ∙ rw a
 
--- both halves are Label's nodes
-pub nodes-by : (t : Table) {m n : Placed} (f l : ℕ) → m ≡ constantNodes t → n ≡ labelNodes (m .table) (m .node) f l → n ≡ nodes t f l
-unfolding nodes constantNodes labelNodes
-nodes-by t f l a b = b ∙ rw a
+-- the parts are Label's nodes
+pub nodes-by : (t : Table) {m n o q : Placed} (f l : ℕ) → m ≡ constantNodes t → n ≡ spreadNodes (m .table) f (m .node) → o ≡ make (n .table) (t .used + 1) (l + 1)
+    → q ≡ spreadNodes (o .table) (o .node) (n .node) → q ≡ nodes t f l
+unfolding nodes constantNodes spreadNodes
+nodes-by t f l a b c d = d ∙ rw (c, b, a, make-node t 0 0)
 
--- the first half's numbers
+-- the numbers of the first part, and of one with a stem
 pub constant-numbers : (t : Table) {m : Placed} → m ≡ constantNodes t → (m .node ≡ t .used + 2) × (m .table .used ≡ t .used + 3)
 unfolding constantNodes make
 constant-numbers t e = (ap (λ (z : Placed). z .node) e ∙ omega arith, ap (λ (z : Placed). z .table .used) e ∙ omega arith)
 
+pub spread-numbers : (t : Table) (p y : ℕ) {m : Placed} → m ≡ spreadNodes t p y → (m .node ≡ t .used + 1) × (m .table .used ≡ t .used + 2)
+unfolding spreadNodes make
+spread-numbers t p y e = (ap (λ (z : Placed). z .node) e ∙ omega arith, ap (λ (z : Placed). z .table .used) e ∙ omega arith)
+
 -- the free nodes, where both nodes are in use
 module _ (w : List ℕ) (u f t : ℕ) where
-  pub no-nodes : capacity w - u < 7 → whole (Refused Nodes) w [] ≡ labelRule w u f t
+  pub no-nodes : capacity w - u < 8 → whole (Refused Nodes) w [] ≡ labelRule w u f t
   unfolding labelRule
-  no-nodes l = rw (lt-ltb (capacity w - u) 7 l)
+  no-nodes l = rw (lt-ltb (capacity w - u) 8 l)
 
-  pub is-labelled : 7 ≤ capacity w - u → {m : Placed} → m ≡ nodes (record { words = w; used = u }) f t
+  pub is-labelled : 8 ≤ capacity w - u → {m : Placed} → m ≡ nodes (record { words = w; used = u }) f t
       → whole (Node (m .node) (m .table .used)) (m .table .words) [] ≡ labelRule w u f t
   unfolding labelRule placed
-  is-labelled l e = rw (le-ltb (capacity w - u) 7 l, e)
+  is-labelled l e = rw (le-ltb (capacity w - u) 8 l, e)
 
 -- the checks of both numbers, where neither 1 nor 2 is met
 module _ (w : List ℕ) (u f t : ℕ) (q : none ≡ atEntry true w u []) where

@@ -8,7 +8,7 @@ ghost use Rattle.table.specs.Nodes.{capacity};
 ghost use Rattle.table.specs.Outcome.{whole};
 ghost use Rattle.nodes.specs.Code.{placedBy};
 ghost use Rattle.labelled.specs.Label as labelling;
-ghost use Rattle.label.specs.Code.{constantNodes, labelNodes};
+ghost use Rattle.label.specs.Code.{constantNodes, spreadNodes};
 use checks::Checked;
 use nodes::NewNode;
 use table::Made;
@@ -24,27 +24,28 @@ fn make_constant(table: &mut [u32], used: usize) -> NewNode
     nodes::new_node(table, n2.used, n1.node + 1, n2.node + 1)
 }
 
-// The nodes of the labelled tree around KK at node k: the stem of the rule, its fork with KK, the stem of the label, its fork with that.
-fn make_label(table: &mut [u32], used: usize, k: usize, rule: usize, label: usize) -> NewNode
-    requires { ⌜ (used + 4 ≤ capacity (now table)) × (length (now table) ≤ 131072) × (k < used) × (rule < used) × (label < used) ⌝ }
-    ensures { λ r. ⌜ placedBy r (now (table .exit)) ≡ labelNodes (record { words = now (table .entry); used = used }) k rule label ⌝ }
+// The nodes of Δ(Δp)y: the stem of p, and its fork with y.
+fn make_spread(table: &mut [u32], used: usize, p: usize, y: usize) -> NewNode
+    requires { ⌜ (used + 2 ≤ capacity (now table)) × (length (now table) ≤ 131072) × (p < used) × (y < used) ⌝ }
+    ensures { λ r. ⌜ placedBy r (now (table .exit)) ≡ spreadNodes (record { words = now (table .entry); used = used }) p y ⌝ }
 {
-    let n4 = nodes::new_node(table, used, rule + 1, 0);
-    let n5 = nodes::new_node(table, n4.used, n4.node + 1, k + 1);
-    let n6 = nodes::new_node(table, n5.used, label + 1, 0);
-    nodes::new_node(table, n6.used, n6.node + 1, n5.node + 1)
+    let stem = nodes::new_node(table, used, p + 1, 0);
+    nodes::new_node(table, stem.used, stem.node + 1, y + 1)
 }
 
-// Labels a rule's node with the tree of another, both in use, in a table that passed 1 and 2: 8, or the labelled tree.
+// Labels a rule's node with the tree of another, both in use, in a table that passed 1 and 2: 8, or the labelled tree. Its first new node, the leaf, is
+// also the first branch of Kt.
 pub fn label_rule(table: &mut [u32], used: usize, rule: usize, label: usize) -> Made
     requires { ⌜ (length (now table) ≤ 131072) × (used ≤ capacity (now table)) × (rule < used) × (label < used) ⌝ }
     ensures { λ r. ⌜ whole r (now (table .exit)) [] ≡ labelling.labelRule (now (table .entry)) used rule label ⌝ }
 {
-    if table.len() / 2 - used < 7 {
+    if table.len() / 2 - used < 8 {
         return Made::Refused(Refusal::Nodes);
     }
     let third = make_constant(table, used);
-    let last = make_label(table, third.used, third.node, rule, label);
+    let fifth = make_spread(table, third.used, rule, third.node);
+    let sixth = nodes::new_node(table, fifth.used, used + 1, label + 1);
+    let last = make_spread(table, sixth.used, sixth.node, fifth.node);
     Made::Node {
         node: last.node,
         used: last.used,

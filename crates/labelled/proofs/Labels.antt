@@ -34,12 +34,12 @@ record Grown (t : Table) (k : ℕ) (z : Table) : Type 0 where
 next : {t z : Table} {k : ℕ} {m : Placed} {x : Tree} → Grown t k z → Places z m x → m .table .used ≡ z .used + 1 → Grown t (k + 1) (m .table)
 next g p e = record { fine = p .fine; extends = extends-trans (g .extends) (p .extends); used-is = omega (arith, g .used-is) }
 
-room : {t z : Table} {k : ℕ} → Grown t k z → k < 7 → t .used + 7 ≤ capacity (t .words) → z .used < capacity (z .words)
+room : {t z : Table} {k : ℕ} → Grown t k z → k < 8 → t .used + 8 ≤ capacity (t .words) → z .used < capacity (z .words)
 room g h r = omega (arith, g .used-is, g .extends .kept .same-length)
 
--- the seven nodes have the labelled tree
-pub nodes-place : {t : Table} → Sound t → (f l : ℕ) → f < t .used → l < t .used → t .used + 7 ≤ capacity (t .words)
-    → Places t (nodes t f l) (labelled (treeAt (t .words) f) (treeAt (t .words) l)) × (nodes t f l .table .used ≡ t .used + 7)
+-- the eight nodes have the labelled tree
+pub nodes-place : {t : Table} → Sound t → (f l : ℕ) → f < t .used → l < t .used → t .used + 8 ≤ capacity (t .words)
+    → Places t (nodes t f l) (labelled (treeAt (t .words) f) (treeAt (t .words) l)) × (nodes t f l .table .used ≡ t .used + 8)
 unfolding nodes
 nodes-place {t} s f l hf hl r =
     let g0 : Grown t 0 t = record { fine = s; extends = extends-refl t; used-is = omega arith } in
@@ -47,17 +47,22 @@ nodes-place {t} s f l hf hl r =
     let g1 = next g0 p1 (make-used _ _ _) in
     let p2 = stem-of (g1 .fine) (room g1 (omega arith) r) (has p1) in
     let g2 = next g1 p2 (make-used _ _ _) in
-    let p3 = fork-of (g2 .fine) (room g2 (omega arith) r) (stays (g1 .fine) (p2 .extends .kept) (has p1)) (has p2) in
+    let leaf-in = stays (g1 .fine) (p2 .extends .kept) (has p1) in
+    let p3 = fork-of (g2 .fine) (room g2 (omega arith) r) leaf-in (has p2) in
     let g3 = next g2 p3 (make-used _ _ _) in
     let p4 = stem-of (g3 .fine) (room g3 (omega arith) r) (stays s (g3 .extends .kept) (known f hf)) in
     let g4 = next g3 p4 (make-used _ _ _) in
     let p5 = fork-of (g4 .fine) (room g4 (omega arith) r) (has p4) (stays (g3 .fine) (p4 .extends .kept) (has p3)) in
     let g5 = next g4 p5 (make-used _ _ _) in
-    let p6 = stem-of (g5 .fine) (room g5 (omega arith) r) (stays s (g5 .extends .kept) (known l hl)) in
+    let leaf-stays = stays (g4 .fine) (p5 .extends .kept) (stays (g3 .fine) (p4 .extends .kept) (stays (g2 .fine) (p3 .extends .kept) leaf-in)) in
+    let p6 = fork-of (g5 .fine) (room g5 (omega arith) r) leaf-stays (stays s (g5 .extends .kept) (known l hl)) in
     let g6 = next g5 p6 (make-used _ _ _) in
-    let p7 = fork-of (g6 .fine) (room g6 (omega arith) r) (has p6) (stays (g5 .fine) (p6 .extends .kept) (has p5)) in
+    let p7 = stem-of (g6 .fine) (room g6 (omega arith) r) (has p6) in
     let g7 = next g6 p7 (make-used _ _ _) in
-    (record { fine = g7 .fine; extends = g7 .extends; inside = p7 .inside; tree = p7 .tree }, omega (arith, g7 .used-is))
+    let fifth = stays (g6 .fine) (p7 .extends .kept) (stays (g5 .fine) (p6 .extends .kept) (has p5)) in
+    let p8 = fork-of (g7 .fine) (room g7 (omega arith) r) (has p7) fifth in
+    let g8 = next g7 p8 (make-used _ _ _) in
+    (record { fine = g8 .fine; extends = g8 .extends; inside = p8 .inside; tree = p8 .tree }, omega (arith, g8 .used-is))
   where
     known : (i : ℕ) → i < t .used → Has t i (treeAt (t .words) i)
     known i h = record { inside = h; tree = refl }
@@ -67,9 +72,9 @@ module _ (w : List ℕ) (u f t v u′ : ℕ) where
   Gives : Outcome Made → Type 0
   Gives o =
       o .answer ≡ Node v u′
-      → (f < u) × (t < u) × Places (record { words = w; used = u }) (record { table = record { words = o .table; used = u′ }; node = v }) (labelled (treeAt w f) (treeAt w t)) × (u′ ≡ u + 7)
+      → (f < u) × (t < u) × Places (record { words = w; used = u }) (record { table = record { words = o .table; used = u′ }; node = v }) (labelled (treeAt w f) (treeAt w t)) × (u′ ≡ u + 8)
 
-  from-nodes : Sound (record { words = w; used = u }) → f < u → t < u → u + 7 ≤ capacity w → Gives (placed (nodes (record { words = w; used = u }) f t) [])
+  from-nodes : Sound (record { words = w; used = u }) → f < u → t < u → u + 8 ≤ capacity w → Gives (placed (nodes (record { words = w; used = u }) f t) [])
   unfolding placed Gives
   from-nodes s hf ht h e =
       let z : Table = record { words = w; used = u } in
@@ -86,24 +91,24 @@ module _ (w : List ℕ) (u f t v u′ : ℕ) where
       )
 
   from-checks : Sound (record { words = w; used = u })
-      → Gives (cond (ltb f u && ltb t u) (cond (ltb (capacity w - u) 7) (whole (Refused Nodes) w []) (placed (nodes (record { words = w; used = u }) f t) [])) (whole (Refused refusal.Node) w []))
+      → Gives (cond (ltb f u && ltb t u) (cond (ltb (capacity w - u) 8) (whole (Refused Nodes) w []) (placed (nodes (record { words = w; used = u }) f t) [])) (whole (Refused refusal.Node) w []))
   unfolding Gives
-  from-checks s = go (ltb f u && ltb t u) (ltb (capacity w - u) 7) refl refl
+  from-checks s = go (ltb f u && ltb t u) (ltb (capacity w - u) 8) refl refl
     where
-      go : (x y : Bool) → (ltb f u && ltb t u) ≡ x → ltb (capacity w - u) 7 ≡ y
+      go : (x y : Bool) → (ltb f u && ltb t u) ≡ x → ltb (capacity w - u) 8 ≡ y
           → Gives (cond x (cond y (whole (Refused Nodes) w []) (placed (nodes (record { words = w; used = u }) f t) [])) (whole (Refused refusal.Node) w []))
       go false y h k = λ e. refused-made e
       go true true h k = λ e. refused-made e
       go true false h k =
           from-nodes s (ltb-true f u (and-left (ltb f u) (ltb t u) h)) (ltb-true t u (and-right (ltb f u) (ltb t u) h))
-          (omega (arith, s .within, ltb-false (capacity w - u) 7 k))
+          (omega (arith, s .within, ltb-false (capacity w - u) 8 k))
 
   pub label-gives : label w u f t .answer ≡ Node v u′ → Labels w u f t v u′
   unfolding label labelRule Gives
   label-gives = go (atEntry true w u []) refl
     where
       o : Outcome Made
-      o = cond (ltb f u && ltb t u) (cond (ltb (capacity w - u) 7) (whole (Refused Nodes) w []) (placed (nodes (record { words = w; used = u }) f t) [])) (whole (Refused refusal.Node) w [])
+      o = cond (ltb f u && ltb t u) (cond (ltb (capacity w - u) 8) (whole (Refused Nodes) w []) (placed (nodes (record { words = w; used = u }) f t) [])) (whole (Refused refusal.Node) w [])
 
       go : (c : Option Refusal) → atEntry true w u [] ≡ c → unless c (λ e. whole (Refused e) w []) o .answer ≡ Node v u′ → Labels w u f t v u′
       go (some e) c q = refused-made q

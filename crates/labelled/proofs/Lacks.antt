@@ -27,7 +27,7 @@ module _ (w : List ℕ) (u f t : ℕ) (e : Refusal) where
   says : (c : Refusal) → LabelLacks w u f t c w → Says (whole (Refused c) w [])
   says c l q = let p : c ≡ e = cc in subst (λ (x : Refusal). LabelLacks w u f t x w) p l
 
-  -- "1, 2, then 3 for either number. 8: fewer than seven free nodes.": each comes only on its condition, and leaves every word as found.
+  -- "1, 2, then 3 for either number.", then 8 with fewer than eight free nodes: each comes only on its condition, and leaves every word as found.
   pub label-lacks : label w u f t .answer ≡ Refused e → LabelLacks w u f t e (label w u f t .table)
   unfolding label labelRule placed
   label-lacks = go (atEntry true w u []) refl
@@ -35,18 +35,18 @@ module _ (w : List ℕ) (u f t : ℕ) (e : Refusal) where
       after : Outcome Made
       after = placed (nodes (record { words = w; used = u }) f t) []
 
-      room : atEntry true w u [] ≡ none → (x y : Bool) → (ltb f u && ltb t u) ≡ x → ltb (capacity w - u) 7 ≡ y
+      room : atEntry true w u [] ≡ none → (x y : Bool) → (ltb f u && ltb t u) ≡ x → ltb (capacity w - u) 8 ≡ y
           → Says (cond x (cond y (whole (Refused Nodes) w []) after) (whole (Refused refusal.Node) w []))
       room i false y h k = says refusal.Node (not-in-use i (λ a b. let z : _≡_ {A = ℕ} 0 1 = cc (lt-ltb f u a, lt-ltb t u b) in omega arith))
       room i true true h k =
-          says Nodes (no-nodes i (ltb-true f u (and-left (ltb f u) (ltb t u) h)) (ltb-true t u (and-right (ltb f u) (ltb t u) h)) (ltb-true (capacity w - u) 7 k))
+          says Nodes (no-nodes i (ltb-true f u (and-left (ltb f u) (ltb t u) h)) (ltb-true t u (and-right (ltb f u) (ltb t u) h)) (ltb-true (capacity w - u) 8 k))
       room i true false h k = λ q. refused-made (sym q)
 
       go : (a : Option Refusal) → atEntry true w u [] ≡ a
           → Says (unless a (λ c. whole (Refused c) w [])
-          (cond (ltb f u && ltb t u) (cond (ltb (capacity w - u) 7) (whole (Refused Nodes) w []) after) (whole (Refused refusal.Node) w [])))
+          (cond (ltb f u && ltb t u) (cond (ltb (capacity w - u) 8) (whole (Refused Nodes) w []) after) (whole (Refused refusal.Node) w [])))
       go (some c) p = says c (at-entry (entry-lacks true w u [] p))
-      go none p = room p (ltb f u && ltb t u) (ltb (capacity w - u) 7) refl refl
+      go none p = room p (ltb f u && ltb t u) (ltb (capacity w - u) 8) refl refl
 
   -- "Read, Translate and Label meet 8 and 9 before they make a node": no refusal of Label changes a table word.
   pub label-refused : label w u f t .answer ≡ Refused e → label w u f t .table ≡ w

@@ -9,9 +9,9 @@ use Rattle.table.specs.declared.Made.the-variants.{Node}
 use Rattle.labelled.specs.Label as labelling
 use Rattle.labelled.specs.Label.{label}
 
--- "leaf; its stem; fork of these; stem of f; fork of it and the third; stem of t; fork of it and the fifth": f is the stem at node 1, t the leaf at
--- node 0, and the words beyond the new nodes are as found
-pub order : label (0 ∷ 0 ∷ 1 ∷ 0 ∷ replicate 16 9) 2 1 0
-    ≡ whole (Node 8 9) (0 ∷ 0 ∷ 1 ∷ 0 ∷ 0 ∷ 0 ∷ 3 ∷ 0 ∷ 3 ∷ 4 ∷ 2 ∷ 0 ∷ 6 ∷ 5 ∷ 1 ∷ 0 ∷ 8 ∷ 7 ∷ 9 ∷ 9 ∷ []) []
+-- "leaf; its stem; fork of these; stem of f; fork of it and the third"; "the sixth is the fork of the first and t, then its stem, then the whole" ([4]):
+-- f is the stem at node 1, t the leaf at node 0, and the words beyond the new nodes are as found
+pub order : label (0 ∷ 0 ∷ 1 ∷ 0 ∷ replicate 18 9) 2 1 0
+    ≡ whole (Node 9 10) (0 ∷ 0 ∷ 1 ∷ 0 ∷ 0 ∷ 0 ∷ 3 ∷ 0 ∷ 3 ∷ 4 ∷ 2 ∷ 0 ∷ 6 ∷ 5 ∷ 3 ∷ 1 ∷ 8 ∷ 0 ∷ 9 ∷ 7 ∷ 9 ∷ 9 ∷ []) []
 unfolding table.broken table.sound table.make outcome.fits outcome.atEntry outcome.placed labelling.nodes labelling.labelRule labelling.label
 order = refl

@@ -11,11 +11,13 @@ use Rattle.table.specs.declared.Refusal.the-variants as refusal
 use Rattle.table.specs.declared.Made.{Made}
 use Rattle.table.specs.declared.Made.the-variants.{Refused}
 
--- "Label a rule with a label tree t (section 5.4): Δ(Δt)(Δ(Δf)(KK))." K is ΔΔ and KK is ΔΔ(ΔΔ).
+-- "Label a rule with a label tree t (section 5.4)"; "Label puts K before the label tree, Δ(Δ(Kt))(Δ(Δf)(KK))." ([4]) K is ΔΔ, Kt is ΔΔt and KK is
+-- ΔΔ(ΔΔ).
 abbrev pub labelled : Tree → Tree → Tree
-labelled f t = fork (stem t) (fork (stem f) (fork leaf (stem leaf)))
+labelled f t = fork (stem (fork leaf t)) (fork (stem f) (fork leaf (stem leaf)))
 
--- "New nodes in order: leaf; its stem; fork of these; stem of f; fork of it and the third; stem of t; fork of it and the fifth."
+-- "New nodes in order: leaf; its stem; fork of these; stem of f; fork of it and the third" (Operations, Label); "the sixth is the fork of the first and
+-- t, then its stem, then the whole" ([4]): the fork of that stem and the fifth.
 unfoldable pub nodes : Table → ℕ → ℕ → Placed
 nodes table f t =
     let n1 = make table 0 0 in
@@ -23,15 +25,17 @@ nodes table f t =
     let n3 = make (n2 .table) (n1 .node + 1) (n2 .node + 1) in
     let n4 = make (n3 .table) (f + 1) 0 in
     let n5 = make (n4 .table) (n4 .node + 1) (n3 .node + 1) in
-    let n6 = make (n5 .table) (t + 1) 0 in
-    make (n6 .table) (n6 .node + 1) (n5 .node + 1)
+    let n6 = make (n5 .table) (n1 .node + 1) (t + 1) in
+    let n7 = make (n6 .table) (n6 .node + 1) 0 in
+    make (n7 .table) (n7 .node + 1) (n5 .node + 1)
 
--- Label on a table that passed 1 and 2, with both nodes in use: "8: fewer than seven free nodes." 8 is met before a node is made, so no word changes.
+-- Label on a table that passed 1 and 2, with both nodes in use: "8: fewer than" eight "free nodes", since "Eight nodes are needed" ([4]). 8 is met before
+-- a node is made, so no word changes.
 unfoldable pub labelRule : List ℕ → ℕ → ℕ → ℕ → Outcome Made
-labelRule w u f t = cond (ltb (capacity w - u) 7) (whole (Refused Nodes) w []) (placed (nodes (record { words = w; used = u }) f t) [])
+labelRule w u f t = cond (ltb (capacity w - u) 8) (whole (Refused Nodes) w []) (placed (nodes (record { words = w; used = u }) f t) [])
 
--- Label the rule at node f with the tree of node t, in the table w with u nodes in use: "1, 2, then 3 for either number. 8: fewer than seven free
--- nodes." "Label has no stack."
+-- Label the rule at node f with the tree of node t, in the table w with u nodes in use: "1, 2, then 3 for either number.", then 8. "Label has no
+-- stack."
 unfoldable pub label : List ℕ → ℕ → ℕ → ℕ → Outcome Made
 label w u f t =
     unless (atEntry true w u []) (λ e. whole (Refused e) w [])

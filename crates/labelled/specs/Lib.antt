@@ -1,3 +1,6 @@
--- Label, and what is claimed of it. Assumes nothing: these are definitions.
+-- Label and `unlabel`, and what is claimed of them. Assumes nothing: these are definitions.
 pub mod Label
 pub mod Claims
+pub mod Unlabel
+pub mod UnlabelClaims
+pub mod Branches

@@ -1,1 +1,8 @@
-// Label as a definition, in specs/, and its theorems, in proofs/. Its code is in the crate `label`.
+// Label and `unlabel` as definitions, in specs/, and their theorems, in proofs/. Their code is in the crates `label` and `unlabel`.
+use table::Refusal;
+
+// The answer of `unlabel`: the nodes of the rule and of the label.
+pub enum Unlabelled {
+    Parts { rule: usize, label: usize },
+    Refused(Refusal),
+}

@@ -2,3 +2,4 @@
 pub mod Stages
 pub mod Refused
 pub mod Writes
+pub mod Remade

@@ -41,7 +41,7 @@ use Rattle.labelling.specs.Claims.{LabelStops, in-translate, in-read, in
 pub record LabelEnds (w : List ℕ) (t : Term) (v : List ℕ) (z : Table) : Type 0 where
   pub fine : Sound z
   pub extends : Extends (record { words = w; used = 0 }) z
-  pub used-is : z .used ≡ size (ruleTree t) + length v + 7
+  pub used-is : z .used ≡ size (ruleTree t) + length v + 8
 
 -- the two kinds of the stages' outcome q
 pub data LabelStaged (w s o : List ℕ) (t : Term) (v : List ℕ) (x : Tree) (q : Outcome Ran) : Type 0 where
@@ -87,7 +87,7 @@ module _ {w s o : List ℕ} (fit : Fit w s o) (t : Term) (v : List ℕ) (x : Tre
           root : Has z′ i (labelled (ruleTree t) x)
           root = record { inside = g .places .inside; tree = rw (← hf .tree, ← hn .tree) (g .places .tree) }
 
-          count : u ≡ size (ruleTree t) + length v + 7
+          count : u ≡ size (ruleTree t) + length v + 8
           count = omega (arith, g .used-is)
 
           end : Writing w s o z′ noUses (labelled (ruleTree t) x) (writes (r .table) u y o i noUses) → LabelStaged w s o t v x (writes (r .table) u y o i noUses)

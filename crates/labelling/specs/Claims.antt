@@ -11,7 +11,7 @@ use Rattle.calculus.specs.Uses.{noUses}
 use Rattle.calculus.specs.Term.{Term}
 use Rattle.calculus.specs.Bytes.{rule}
 use Rattle.calculus.specs.Abstraction.{ruleTree}
-use Rattle.table.specs.Nodes.{capacity, Sound, cleared}
+use Rattle.table.specs.Nodes.{capacity, Sound, treeAt, cleared}
 use Rattle.table.specs.Outcome.{Outcome, wholeOut, frames, zeros}
 use Rattle.table.specs.declared.Refusal.{Refusal}
 use Rattle.table.specs.declared.Refusal.the-variants.{Limits, Rule, Nodes}
@@ -21,6 +21,8 @@ use Rattle.ternary.specs.Read.{readable}
 use Rattle.ternary.specs.Write.{lacks}
 use Rattle.ternary.specs.Held.{Spent}
 use Rattle.labelled.specs.Label.{labelled}
+use Rattle.labelled.specs.Unlabel.{unlabel}
+use Rattle.labelled.specs.declared.Unlabelled.the-variants.{Parts}
 use Rattle.fields.specs.Packet.{Packet, packet}
 use Rattle.running.specs.Run.{texts, ranNumbers, ranUses}
 use Rattle.running.specs.Claims.{Fit, Unreadable, Checked, TranslateStops, TranslateHad, ReadStops, ReadsHad, TooFew}
@@ -51,10 +53,10 @@ pub record Labelled (l : List ℕ) (p : Packet) : Type 0 where
 pub data LabelStops (w s o : List ℕ) (t : Term) (v : List ℕ) (x : Tree) : Refusal → ℕ → Type 0 where
   in-translate : {e : Refusal} → TranslateStops w s t e → LabelStops w s o t v x e 0
   in-read : {e : Refusal} {m : ℕ} → TranslateHad w s t → ReadStops w s (size (ruleTree t)) (v ∷ []) e m → LabelStops w s o t v x e m
-  in-label : TranslateHad w s t → ReadsHad w s (size (ruleTree t)) (v ∷ []) → capacity w - (size (ruleTree t) + length v) < 7
+  in-label : TranslateHad w s t → ReadsHad w s (size (ruleTree t)) (v ∷ []) → capacity w - (size (ruleTree t) + length v) < 8
       → LabelStops w s o t v x Nodes (size (ruleTree t) + length v)
-  in-write : {e : Refusal} → TranslateHad w s t → ReadsHad w s (size (ruleTree t)) (v ∷ []) → size (ruleTree t) + length v + 7 ≤ capacity w
-      → Spent (frames s) 0 (labelled (ruleTree t) x) (length o) (lacks e) → LabelStops w s o t v x e (size (ruleTree t) + length v + 7)
+  in-write : {e : Refusal} → TranslateHad w s t → ReadsHad w s (size (ruleTree t)) (v ∷ []) → size (ruleTree t) + length v + 8 ≤ capacity w
+      → Spent (frames s) 0 (labelled (ruleTree t) x) (length o) (lacks e) → LabelStops w s o t v x e (size (ruleTree t) + length v + 8)
 
 -- What was not so where `label_packet` refuses with e, and the whole outcome q: 1, 6, 5 and 4 "leave lent memory as found". Then a stage stops with 8 to
 -- 10: the words of the m nodes made since the entry are 0 and all others as found, the stack is 0, and "the out bytes stay as at entry".
@@ -98,10 +100,19 @@ pub record LabelCompletes (w s o l : List ℕ) (u n : ℕ) : Type 0 where
   pub digits-are : n ≡ length (text (labelled (ruleTree term) label))
   pub written : take n (labelPacket w s o l .out) ≡ text (labelled (ruleTree term) label)
   pub out-is : labelPacket w s o l .out ≡ text (labelled (ruleTree term) label) ++ drop n o
-  -- the nodes in use: the rule's, one a digit of the label's text, and Label's seven
-  pub used-is : u ≡ size (ruleTree term) + length value + 7
+  -- the nodes in use: the rule's, one a digit of the label's text, and Label's eight
+  pub used-is : u ≡ size (ruleTree term) + length value + 8
   -- "Success also sets the stack to 0, and no other table word than those of new nodes changes."
   pub stack : labelPacket w s o l .stack ≡ zeros s
   pub same-length : length (labelPacket w s o l .table) ≡ length w
   pub beyond : (i : ℕ) → 2 * u ≤ i → getD (labelPacket w s o l .table) i 0 ≡ getD w i 0
   pub fine : Sound (record { words = labelPacket w s o l .table; used = u })
+
+-- "trees labelled earlier are made again from their packets" ([4]): out of node v of the table w, with u nodes in use, `unlabel` gives nodes of the
+-- rule's tree f and of the label's tree t.
+pub record TakenApart (w : List ℕ) (u v : ℕ) (f t : Tree) : Type 0 where
+  pub rule : ℕ
+  pub label : ℕ
+  pub answer : unlabel w u v ≡ Parts rule label
+  pub rule-tree : treeAt w rule ≡ f
+  pub label-tree : treeAt w label ≡ t

@@ -1,7 +1,2 @@
--- The theorems of `unlabel`, and the laws that the proofs of its functions cite.
-pub mod Forms
-pub mod Shapes
-pub mod Unlabels
-pub mod After
+-- The laws that the proofs of the functions of `unlabel` cite.
 pub mod Ways
-pub mod Vectors

@@ -1,6 +1,6 @@
 -- Laws of the tests and of the answer, one for each way that the code goes. Assumes nothing.
 use Prim.Native.Nat.{ℕ, _≤_, _<_}
-use mathlib.Core.Path.{_≡_, refl, ap, _∙_, subst}
+use mathlib.Core.Path.{_≡_, refl, sym, subst}
 use mathlib.Core.Bool.{Bool, true, false}
 use mathlib.Core.List.{List, [], _∷_}
 use mathlib.Core.Logic.{⊎-elim}
@@ -13,11 +13,15 @@ use Rattle.calculus.specs.Tree.{Tree, leaf}
 use Rattle.table.specs.Nodes.{treeAt}
 use Rattle.table.specs.Outcome.{atEntry}
 use Rattle.table.specs.declared.Refusal.the-variants.{Node, Label}
-use Rattle.unlabel.specs.Unlabel.{isLeaf, isStem, isK, isKK, isRuleBranch, isLabelled, left, right, labelNode, ruleNode, unlabelNode, unlabel}
-use Rattle.unlabel.specs.Code.{IsStem, IsFork, Shaped, a-leaf, a-stem, a-fork}
+use Rattle.table.proofs.Words.{zero-one}
+use Rattle.labelled.specs.Unlabel.{isLeaf, isStem, isK, isKK, isKOf, isLabelBranch, isRuleBranch, isLabelled, labelUnder, ruleUnder, labelNode, ruleNode, unlabelNode, unlabel}
+use Rattle.labelled.specs.Branches.{IsStem, IsFork}
+use Rattle.labelled.specs.declared.Unlabelled.the-variants.{Parts, Refused}
+use Rattle.unlabel.specs.Code.{Shaped, a-leaf, a-stem, a-fork, Holds, of-form, not-of-form}
 use Rattle.unlabel.specs.declared.Shape.{Shape}
 use Rattle.unlabel.specs.declared.Shape.the-variants.{Leaf, Stem, Fork}
-use Rattle.unlabel.specs.declared.Unlabelled.the-variants.{Parts, Refused}
+use Rattle.unlabel.specs.declared.Under.{Under}
+use Rattle.unlabel.specs.declared.Under.the-variants as under
 
 -- a shape that is one of these: leaf 0, stem 1, fork 2
 abbrev pub OneOf : List ℕ → Shape → Type 0
@@ -53,18 +57,24 @@ module _ {w : List ℕ} {v : ℕ} where
   no-leaf (a-stem h) o = rw (h .tree)
   no-leaf (a-fork h) o = rw (h .tree)
 
-  pub no-stem : {s : Shape} → Shaped w v s → OneOf (0 ∷ 2 ∷ []) s → (isStem (treeAt w v) ≡ false) × (isK (treeAt w v) ≡ false)
-  unfolding isStem isK
-  no-stem (a-leaf h) o = rw h (refl, refl)
+  pub no-stem : {s : Shape} → Shaped w v s → OneOf (0 ∷ 2 ∷ []) s
+      → (isStem (treeAt w v) ≡ false) × (isK (treeAt w v) ≡ false) × (isLabelBranch (treeAt w v) ≡ false)
+  unfolding isStem isK isLabelBranch
+  no-stem (a-leaf h) o = rw h (refl, refl, refl)
   no-stem (a-stem h) o = absurd (⊎-elim (λ q. omega arith) (λ q. omega arith) o)
-  no-stem (a-fork h) o = rw (h .tree) (refl, refl)
+  no-stem (a-fork h) o = rw (h .tree) (refl, refl, refl)
 
   pub no-fork : {s : Shape} → Shaped w v s → OneOf (0 ∷ 1 ∷ []) s
-      → (isKK (treeAt w v) ≡ false) × (isRuleBranch (treeAt w v) ≡ false) × (isLabelled (treeAt w v) ≡ false)
-  unfolding isKK isRuleBranch isLabelled
-  no-fork (a-leaf h) o = rw h (refl, refl, refl)
-  no-fork (a-stem h) o = rw (h .tree) (refl, refl, refl)
+      → (isKK (treeAt w v) ≡ false) × (isKOf (treeAt w v) ≡ false) × (isRuleBranch (treeAt w v) ≡ false) × (isLabelled (treeAt w v) ≡ false)
+  unfolding isKK isKOf isRuleBranch isLabelled
+  no-fork (a-leaf h) o = rw h (refl, refl, refl, refl)
+  no-fork (a-stem h) o = rw (h .tree) (refl, refl, refl, refl)
   no-fork (a-fork h) o = absurd (⊎-elim (λ q. omega arith) (λ q. omega arith) o)
+
+-- the test of the stem of a node p
+pub label-branch : {w : List ℕ} {v p : ℕ} {z : Bool} → IsStem w v p → isKOf (treeAt w p) ≡ z → isLabelBranch (treeAt w v) ≡ z
+unfolding isLabelBranch
+label-branch s h = rw (s .tree) h
 
 -- the tests of a fork of nodes p and q
 module _ {w : List ℕ} {v p q : ℕ} (k : IsFork w v p q) where
@@ -81,6 +91,10 @@ module _ {w : List ℕ} {v p q : ℕ} (k : IsFork w v p q) where
     unfolding isK
     kk-last s h = kk-second (rw (s .tree) h)
 
+  pub k-of : {z : Bool} → isLeaf (treeAt w p) ≡ z → isKOf (treeAt w v) ≡ z
+  unfolding isKOf
+  k-of h = rw (k .tree) h
+
   pub rule-first : isStem (treeAt w p) ≡ false → isRuleBranch (treeAt w v) ≡ false
   unfolding isRuleBranch
   rule-first h = rw (k .tree, h)
@@ -89,26 +103,40 @@ module _ {w : List ℕ} {v p q : ℕ} (k : IsFork w v p q) where
   unfolding isRuleBranch isStem
   rule-second s h = rw (k .tree, s .tree) h
 
-  pub label-first : isStem (treeAt w p) ≡ false → isLabelled (treeAt w v) ≡ false
-  unfolding isLabelled
-  label-first h = rw (k .tree, h)
+-- what the node under a branch tells
+module _ {b : Bool} {i : ℕ} where
+  pub of-form-at : {j : ℕ} → b ≡ true → j ≡ i → Holds b i (under.Node j)
+  of-form-at h e = subst (λ (x : ℕ). Holds b i (under.Node x)) (sym e) (of-form h)
 
-  pub label-second : {t : ℕ} {z : Bool} → IsStem w p t → isRuleBranch (treeAt w q) ≡ z → isLabelled (treeAt w v) ≡ z
-  unfolding isLabelled isStem
-  label-second s h = rw (k .tree, s .tree) h
+  pub told-node : {r : Under} {j : ℕ} → Holds b i r → r ≡ under.Node j → (b ≡ true) × (j ≡ i)
+  told-node (of-form h) e = (h, cc)
+  told-node (not-of-form h) e = zero-one (cc)
+
+  pub told-other : {r : Under} → Holds b i r → r ≡ under.Other → b ≡ false
+  told-other (of-form h) e = zero-one (cc)
+  told-other (not-of-form h) e = h
 
 -- 11, or the nodes
-pub not-of-form : (w : List ℕ) (v : ℕ) → isLabelled (treeAt w v) ≡ false → Refused Label ≡ unlabelNode w v
+pub no-labelled : (w : List ℕ) (v : ℕ) → isLabelled (treeAt w v) ≡ false → Refused Label ≡ unlabelNode w v
 unfolding unlabelNode
-not-of-form w v h = rw h
+no-labelled w v h = rw h
 
-pub of-form : {w : List ℕ} {v p q t a b f : ℕ} → IsFork w v p q → IsStem w p t → IsFork w q a b → IsStem w a f → isKK (treeAt w b) ≡ true
-    → Parts f t ≡ unlabelNode w v
-unfolding unlabelNode ruleNode labelNode
-of-form {w} {v} {t = t} {f = f} k s m n h =
-    let x : f ≡ left w (left w (right w v)) = n .branch-is ∙ ap (left w) (m .one-is ∙ ap (left w) (k .two-is)) in
-    let y : t ≡ left w (left w v) = s .branch-is ∙ ap (left w) (k .one-is) in
-    rw (label-second k s (rule-second m n h), x, y)
+module _ {w : List ℕ} {v p q : ℕ} (k : IsFork w v p q) where
+  pub no-label-branch : isLabelBranch (treeAt w p) ≡ false → Refused Label ≡ unlabelNode w v
+  unfolding isLabelled
+  no-label-branch h = no-labelled w v (rw (k .tree, h))
+
+  module _ (l : isLabelBranch (treeAt w p) ≡ true) where
+    both : {z : Bool} → isRuleBranch (treeAt w q) ≡ z → isLabelled (treeAt w v) ≡ z
+    unfolding isLabelled
+    both h = rw (k .tree, l) h
+
+    pub no-rule-branch : isRuleBranch (treeAt w q) ≡ false → Refused Label ≡ unlabelNode w v
+    no-rule-branch h = no-labelled w v (both h)
+
+    pub both-branches : {f t : ℕ} → isRuleBranch (treeAt w q) ≡ true → f ≡ ruleUnder w q → t ≡ labelUnder w p → Parts f t ≡ unlabelNode w v
+    unfolding unlabelNode ruleNode labelNode
+    both-branches h x y = rw (both h, x, y, k .one-is, k .two-is)
 
 -- the node number, where neither 1 nor 2 is met
 module _ (w : List ℕ) (u v : ℕ) (q : none ≡ atEntry true w u []) where

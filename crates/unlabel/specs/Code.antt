@@ -1,37 +1,23 @@
 -- What the code's own values say in terms of the definitions. Assumes nothing: these are definitions.
-use Prim.Native.Nat.{ℕ, _<_}
+use Prim.Native.Nat.{ℕ}
 use mathlib.Core.Path.{_≡_}
+use mathlib.Core.Bool.{Bool, true, false}
 use mathlib.Core.List.{List}
-use Rattle.calculus.specs.Tree.{leaf, stem, fork}
-use Rattle.table.specs.Nodes.{Sound, treeAt}
-use Rattle.unlabel.specs.Unlabel.{left, right}
+use Rattle.calculus.specs.Tree.{leaf}
+use Rattle.table.specs.Nodes.{treeAt}
+use Rattle.labelled.specs.Branches.{IsStem, IsFork}
 use Rattle.unlabel.specs.declared.Shape.{Shape}
 use Rattle.unlabel.specs.declared.Shape.the-variants.{Leaf, Stem, Fork}
-
--- node v is in use in a sound table that has these words
-pub record InUse (w : List ℕ) (v : ℕ) : Type 0 where
-  pub used : ℕ
-  pub fine : Sound (record { words = w; used = used })
-  pub inside : v < used
-
--- Node v is the stem of node p, or the fork of nodes p and q. "branches come before parents"
-pub record IsStem (w : List ℕ) (v p : ℕ) : Type 0 where
-  pub branch : InUse w p
-  pub branch-is : p ≡ left w v
-  pub branch-before : p < v
-  pub tree : treeAt w v ≡ stem (treeAt w p)
-
-pub record IsFork (w : List ℕ) (v p q : ℕ) : Type 0 where
-  pub one : InUse w p
-  pub two : InUse w q
-  pub one-is : p ≡ left w v
-  pub two-is : q ≡ right w v
-  pub one-before : p < v
-  pub two-before : q < v
-  pub tree : treeAt w v ≡ fork (treeAt w p) (treeAt w q)
+use Rattle.unlabel.specs.declared.Under.{Under}
+use Rattle.unlabel.specs.declared.Under.the-variants.{Node, Other}
 
 -- what the shape of node v says
 pub data Shaped (w : List ℕ) (v : ℕ) : Shape → Type 0 where
   a-leaf : treeAt w v ≡ leaf → Shaped w v Leaf
   a-stem : {p : ℕ} → IsStem w v p → Shaped w v (Stem p)
   a-fork : {p q : ℕ} → IsFork w v p q → Shaped w v (Fork p q)
+
+-- what the node under a branch says: it is i, where the branch has its form, b
+pub data Holds (b : Bool) (i : ℕ) : Under → Type 0 where
+  of-form : b ≡ true → Holds b i (Node i)
+  not-of-form : b ≡ false → Holds b i Other

@@ -1,4 +1,2 @@
--- Which trees are labelled and what `unlabel` gives, what is claimed of it, and what its code's own values say. Assumes nothing: these are definitions.
-pub mod Unlabel
-pub mod Claims
+-- What the values of `unlabel`'s code say. Assumes nothing: these are definitions.
 pub mod Code

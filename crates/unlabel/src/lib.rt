@@ -1,22 +1,25 @@
-// The nodes of rule and label out of a labelled tree. The definitions are in specs/, the theorems in proofs/.
+// The nodes of rule and label out of a labelled tree. The definition and its theorems are in the crate `labelled`; specs/ says what the code's own values
+// mean in its terms.
 ghost use mathlib.Core.Path.{_≡_};
 ghost use Rattle.table.specs.Nodes.{treeAt};
-ghost use Rattle.unlabel.specs.Unlabel.{isKK, unlabelNode, unlabel};
-ghost use Rattle.unlabel.specs.Code.{InUse, Shaped};
+ghost use Rattle.labelled.specs.Branches.{InUse};
+ghost use Rattle.labelled.specs.Unlabel.{isKK, isLabelBranch, isRuleBranch, labelUnder, ruleUnder, unlabelNode, unlabel};
+ghost use Rattle.unlabel.specs.Code.{Shaped, Holds};
 use checks::Checked;
+use labelled::Unlabelled;
 use table::Refusal;
-
-// The answer: the nodes of the rule and of the label.
-pub enum Unlabelled {
-    Parts { rule: usize, label: usize },
-    Refused(Refusal),
-}
 
 // A node by its branches: a leaf, the stem of a node, or the fork of two.
 enum Shape {
     Leaf,
     Stem(usize),
     Fork(usize, usize),
+}
+
+// The node of the label or of the rule under one of the two branches, where the branch has its form.
+enum Under {
+    Node(usize),
+    Other,
 }
 
 // The shape of a node in use.
@@ -60,6 +63,45 @@ fn is_constant(table: &[u32], node: usize) -> bool
     }
 }
 
+// The node of t where the tree of a node in use is Δ(Kt).
+fn label_under(table: &[u32], node: usize) -> Under
+    requires { ⌜ InUse (now table) node ⌝ }
+    ensures { λ r. ⌜ Holds (isLabelBranch (treeAt (now (table .entry)) node)) (labelUnder (now (table .entry)) node) r ⌝ }
+{
+    let whole = shape_at(table, node);
+    let Shape::Stem(constant) = whole else {
+        return Under::Other;
+    };
+    let held = shape_at(table, constant);
+    let Shape::Fork(p, label) = held else {
+        return Under::Other;
+    };
+    let first = shape_at(table, p);
+    let Shape::Leaf = first else {
+        return Under::Other;
+    };
+    Under::Node(label)
+}
+
+// The node of f where the tree of a node in use is Δ(Δf)(KK).
+fn rule_under(table: &[u32], node: usize) -> Under
+    requires { ⌜ InUse (now table) node ⌝ }
+    ensures { λ r. ⌜ Holds (isRuleBranch (treeAt (now (table .entry)) node)) (ruleUnder (now (table .entry)) node) r ⌝ }
+{
+    let whole = shape_at(table, node);
+    let Shape::Fork(p, q) = whole else {
+        return Under::Other;
+    };
+    let first = shape_at(table, p);
+    let Shape::Stem(rule) = first else {
+        return Under::Other;
+    };
+    if !is_constant(table, q) {
+        return Under::Other;
+    }
+    Under::Node(rule)
+}
+
 // The nodes of rule and label out of the tree of a node in use, or 11. The tree is known by its form alone, wherever its nodes lie.
 fn unlabel_node(table: &[u32], node: usize) -> Unlabelled
     requires { ⌜ InUse (now table) node ⌝ }
@@ -69,21 +111,14 @@ fn unlabel_node(table: &[u32], node: usize) -> Unlabelled
     let Shape::Fork(p, q) = whole else {
         return Unlabelled::Refused(Refusal::Label);
     };
-    let first = shape_at(table, p);
-    let Shape::Stem(label) = first else {
+    let first = label_under(table, p);
+    let Under::Node(label) = first else {
         return Unlabelled::Refused(Refusal::Label);
     };
-    let second = shape_at(table, q);
-    let Shape::Fork(a, b) = second else {
+    let second = rule_under(table, q);
+    let Under::Node(rule) = second else {
         return Unlabelled::Refused(Refusal::Label);
     };
-    let held = shape_at(table, a);
-    let Shape::Stem(rule) = held else {
-        return Unlabelled::Refused(Refusal::Label);
-    };
-    if !is_constant(table, b) {
-        return Unlabelled::Refused(Refusal::Label);
-    }
     Unlabelled::Parts { rule, label }
 }
 

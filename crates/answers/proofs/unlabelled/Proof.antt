@@ -1,5 +1,5 @@
 -- `answers::unlabelled` meets its contract: each case of the answer. Assumes nothing.
-use Rattle.unlabel.specs.Unlabel.{unlabelledNumbers}
+use Rattle.labelled.specs.Unlabel.{unlabelledNumbers}
 use borrow.Author.Needs.{needs}
 use Rattle.answers.proofs.unlabelled.Statement.{statement}
 use Rattle.answers.proofs.unlabelled.Tie as tie

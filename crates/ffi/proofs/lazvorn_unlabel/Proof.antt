@@ -1,6 +1,6 @@
 -- `ffi::lazvorn_unlabel` meets its contract: the operation's answer as numbers. Assumes nothing.
 use mathlib.Core.Path.{ap, _∙_}
-use Rattle.unlabel.specs.Unlabel.{unlabelledNumbers}
+use Rattle.labelled.specs.Unlabel.{unlabelledNumbers}
 use borrow.Author.Needs.{needs}
 use Rattle.ffi.proofs.lazvorn_unlabel.Statement.{statement}
 use Rattle.ffi.proofs.lazvorn_unlabel.Tie as tie

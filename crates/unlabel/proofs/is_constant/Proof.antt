@@ -6,8 +6,8 @@ use mathlib.Core.List.{List}
 use mathlib.Core.Logic.{inl, inr}
 use Rattle.calculus.specs.Tree.{leaf}
 use Rattle.table.specs.Nodes.{treeAt}
-use Rattle.unlabel.specs.Unlabel.{isLeaf, isKK}
-use Rattle.unlabel.specs.Code.{IsStem, IsFork}
+use Rattle.labelled.specs.Unlabel.{isLeaf, isKK}
+use Rattle.labelled.specs.Branches.{IsStem, IsFork}
 use Rattle.unlabel.proofs.Ways.{told-leaf, told-stem, told-fork, no-leaf, no-stem, no-fork, kk-first, kk-second, kk-last, leaf-passes}
 use borrow.Author.Needs.{needs}
 use Rattle.unlabel.proofs.is_constant.Statement.{statement}

@@ -5,8 +5,8 @@ use mathlib.Core.List.{[]}
 use mathlib.Core.Option.{none}
 use Rattle.table.specs.Outcome.{atEntry}
 use Rattle.table.proofs.Entry.{entered, check-refuses}
-use Rattle.unlabel.specs.Unlabel as unlabelling
-use Rattle.unlabel.specs.declared.Unlabelled.the-variants.{Refused}
+use Rattle.labelled.specs.Unlabel as unlabelling
+use Rattle.labelled.specs.declared.Unlabelled.the-variants.{Refused}
 use Rattle.unlabel.proofs.Ways.{no-node, in-use}
 use borrow.Author.Needs.{needs}
 use Rattle.unlabel.proofs.unlabel.Statement.{statement}

@@ -1,4 +1,5 @@
--- Which trees are of the labelled form, and the nodes of rule and label out of such a tree (document 02, [1]). Assumes nothing: these are definitions.
+-- Which trees are of the labelled form, and the nodes of rule and label out of such a tree (document 02, [1] and [4]). Assumes nothing: these are
+-- definitions.
 use Prim.Native.Nat.{ℕ, _-_}
 use mathlib.Core.Bool.{Bool, true, false, cond, _&&_}
 use mathlib.Core.List.{List, [], _∷_}
@@ -8,8 +9,8 @@ use Rattle.table.specs.Nodes.{first, second, treeAt}
 use Rattle.table.specs.Outcome.{atEntry, unless}
 use Rattle.table.specs.Refusal.{number}
 use Rattle.table.specs.declared.Refusal.the-variants.{Node, Label}
-use Rattle.unlabel.specs.declared.Unlabelled.{Unlabelled}
-use Rattle.unlabel.specs.declared.Unlabelled.the-variants.{Parts, Refused}
+use Rattle.labelled.specs.declared.Unlabelled.{Unlabelled}
+use Rattle.labelled.specs.declared.Unlabelled.the-variants.{Parts, Refused}
 
 -- whether a tree is Δ, a stem, K that is ΔΔ, and KK that is ΔΔ(ΔΔ)
 unfoldable pub isLeaf : Tree → Bool
@@ -32,17 +33,28 @@ isKK leaf = false
 isKK (stem p) = false
 isKK (fork p q) = isLeaf p && isK q
 
+-- whether a tree is Kt, that is ΔΔt, for some t, and Δ(Kt), the first branch of a labelled tree
+unfoldable pub isKOf : Tree → Bool
+isKOf leaf = false
+isKOf (stem p) = false
+isKOf (fork p q) = isLeaf p
+
+unfoldable pub isLabelBranch : Tree → Bool
+isLabelBranch leaf = false
+isLabelBranch (stem p) = isKOf p
+isLabelBranch (fork p q) = false
+
 -- whether a tree is Δ(Δf)(KK) for some f, the second branch of a labelled tree
 unfoldable pub isRuleBranch : Tree → Bool
 isRuleBranch leaf = false
 isRuleBranch (stem p) = false
 isRuleBranch (fork p q) = isStem p && isKK q
 
--- "the tree isn't of the labelled form": whether it is. The form is document 01's, "Δ(Δt)(Δ(Δf)(KK))" (Operations, Label).
+-- "the tree isn't of the labelled form" ([1]): whether it is. "The office reader of [1] expects this form", "Δ(Δ(Kt))(Δ(Δf)(KK))" ([4]).
 unfoldable pub isLabelled : Tree → Bool
 isLabelled leaf = false
 isLabelled (stem p) = false
-isLabelled (fork p q) = isStem p && isRuleBranch q
+isLabelled (fork p q) = isLabelBranch p && isRuleBranch q
 
 -- the node of a node's first branch, and of its second
 abbrev pub left : List ℕ → ℕ → ℕ
@@ -51,12 +63,19 @@ left w v = first w v - 1
 abbrev pub right : List ℕ → ℕ → ℕ
 right w v = second w v - 1
 
--- "the nodes of label and rule out of a labelled tree": of Δ(Δt)(Δ(Δf)(KK)) at node v, the node of t, and that of f
+-- the node of t under Δ(Kt) at node v, and that of f under Δ(Δf)(KK)
+abbrev pub labelUnder : List ℕ → ℕ → ℕ
+labelUnder w v = right w (left w v)
+
+abbrev pub ruleUnder : List ℕ → ℕ → ℕ
+ruleUnder w v = left w (left w v)
+
+-- "the nodes of label and rule out of a labelled tree": of Δ(Δ(Kt))(Δ(Δf)(KK)) at node v, the node of t, and that of f
 unfoldable pub labelNode : List ℕ → ℕ → ℕ
-labelNode w v = left w (left w v)
+labelNode w v = labelUnder w (left w v)
 
 unfoldable pub ruleNode : List ℕ → ℕ → ℕ
-ruleNode w v = left w (left w (right w v))
+ruleNode w v = ruleUnder w (right w v)
 
 -- "11, the tree isn't of the labelled form": of node v, in use in a table that passed 1 and 2
 unfoldable pub unlabelNode : List ℕ → ℕ → Unlabelled

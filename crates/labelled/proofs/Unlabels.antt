@@ -15,14 +15,14 @@ use Rattle.table.specs.declared.Refusal.{Refusal}
 use Rattle.table.specs.declared.Refusal.the-variants.{Node, Label}
 use Rattle.table.proofs.Words.{zero-one}
 use Rattle.table.proofs.Entry.{entered, entry-lacks, lacks-entry}
 use Rattle.labelled.specs.Label.{labelled}
-use Rattle.unlabel.specs.Unlabel.{isLabelled, left, right, labelNode, ruleNode, unlabelNode, unlabel}
-use Rattle.unlabel.specs.Claims.{Found, Given, Unlabels, UnlabelLacks, at-entry, not-in-use, not-labelled}
-use Rattle.unlabel.specs.Code.{InUse}
-use Rattle.unlabel.specs.declared.Unlabelled.{Unlabelled}
-use Rattle.unlabel.specs.declared.Unlabelled.the-variants.{Parts, Refused}
-use Rattle.unlabel.proofs.Forms.{is-labelled-exact, not-labelled-fails}
-use Rattle.unlabel.proofs.Shapes.{stem-of, fork-of}
+use Rattle.labelled.specs.Unlabel.{isLabelled, left, right, labelNode, ruleNode, unlabelNode, unlabel}
+use Rattle.labelled.specs.UnlabelClaims.{IsLabelled, Found, Given, Unlabels, UnlabelLacks, at-entry, not-in-use, not-labelled, labelledEarlier, IsKOf}
+use Rattle.labelled.specs.Branches.{InUse}
+use Rattle.labelled.specs.declared.Unlabelled.{Unlabelled}
+use Rattle.labelled.specs.declared.Unlabelled.the-variants.{Parts, Refused}
+use Rattle.labelled.proofs.Forms.{is-labelled-exact, not-labelled-fails, earlier-exact}
+use Rattle.labelled.proofs.Branches.{stem-of, fork-of}
 
 -- the nodes of rule and label in the labelled tree of a node in use
 record Holds (w : List ℕ) (v : ℕ) (f t : Tree) : Type 0 where
@@ -35,15 +35,17 @@ holds : {w : List ℕ} {v : ℕ} (f t : Tree) → InUse w v → treeAt w v ≡ l
 unfolding ruleNode labelNode
 holds {w} {v} f t i e =
     let k = fork-of i e in
-    let x : treeAt w (left w v) ≡ stem t = cc (k .tree) in
+    let x : treeAt w (left w v) ≡ stem (fork leaf t) = cc (k .tree) in
     let y : treeAt w (right w v) ≡ fork (stem f) (fork leaf (stem leaf)) = cc (k .tree) in
-    let l = stem-of (k .one) x in
+    let s = stem-of (k .one) x in
+    let a : treeAt w (left w (left w v)) ≡ fork leaf t = cc (s .tree) in
+    let l = fork-of (s .branch) a in
     let m = fork-of (k .two) y in
     let z : treeAt w (left w (right w v)) ≡ stem f = cc (m .tree) in
     let n = stem-of (m .one) z in
     record {
       rule-before = omega (arith, n .branch-before, m .one-before, k .two-before);
-      label-before = omega (arith, l .branch-before, k .one-before);
+      label-before = omega (arith, l .two-before, s .branch-before, k .one-before);
       rule-tree = cc (n .tree);
       label-tree = cc (l .tree);
     }
@@ -108,3 +110,12 @@ module _ (w : List ℕ) (u v : ℕ) where
         tree = cc (k .rule-tree, k .label-tree, h .tree .form);
         only = λ f t e. let m = holds f t i e in (cc (m .rule-tree), cc (m .label-tree));
       }
+
+  -- "trees labelled earlier" ([4]): 11 comes for such a tree exactly where its label is not itself a K of something.
+  pub unlabel-earlier : atEntry true w u [] ≡ none → v < u → (f t : Tree) → treeAt w v ≡ labelledEarlier f t → (unlabel w u v ≡ Refused Label) ↔ (IsKOf t → ⊥)
+  unlabel-earlier p h f t e =
+      (λ q k. go (unlabel-lacks Label .0 q) (rw e (earlier-exact f t .1 k)), λ n. stops (not-labelled p h (λ i. n (earlier-exact f t .0 (rw e at i)))))
+    where
+      go : UnlabelLacks w u v Label → IsLabelled (treeAt w v) → ⊥
+      go (not-labelled a b n) i = n i
+      go (at-entry l) i = zero-one (cc (p, lacks-entry l))

@@ -4,15 +4,15 @@ use mathlib.Core.Path.{_≡_}
 use mathlib.Core.Bool.{true}
 use mathlib.Core.List.{List, []}
 use mathlib.Core.Option.{none}
-use Rattle.calculus.specs.Tree.{Tree}
+use Rattle.calculus.specs.Tree.{Tree, leaf, stem, fork}
 use Rattle.table.specs.Nodes.{treeAt}
 use Rattle.table.specs.Outcome.{atEntry}
 use Rattle.table.specs.Claims.{EntryLacks}
 use Rattle.table.specs.declared.Refusal.{Refusal}
 use Rattle.table.specs.declared.Refusal.the-variants.{Node, Label}
 use Rattle.labelled.specs.Label.{labelled}
-use Rattle.unlabel.specs.Unlabel.{unlabel}
-use Rattle.unlabel.specs.declared.Unlabelled.the-variants.{Parts}
+use Rattle.labelled.specs.Unlabel.{unlabel}
+use Rattle.labelled.specs.declared.Unlabelled.the-variants.{Parts}
 
 -- the tree x is the labelled tree of some rule and some label
 pub record IsLabelled (x : Tree) : Type 0 where
@@ -45,3 +45,12 @@ pub data UnlabelLacks (w : List ℕ) (u v : ℕ) : Refusal → Type 0 where
   at-entry : {e : Refusal} → EntryLacks true w u [] e → UnlabelLacks w u v e
   not-in-use : atEntry true w u [] ≡ none → u ≤ v → UnlabelLacks w u v Node
   not-labelled : atEntry true w u [] ≡ none → v < u → (IsLabelled (treeAt w v) → ⊥) → UnlabelLacks w u v Label
+
+-- The form of "trees labelled earlier" ([4]): document 01's, "Δ(Δt)(Δ(Δf)(KK))" (Operations, Label).
+abbrev pub labelledEarlier : Tree → Tree → Tree
+labelledEarlier f t = fork (stem t) (fork (stem f) (fork leaf (stem leaf)))
+
+-- the tree is Kx, that is ΔΔx, for some x
+pub record IsKOf (t : Tree) : Type 0 where
+  pub inner : Tree
+  pub form : t ≡ fork leaf inner

@@ -1,0 +1,42 @@
+-- Worked examples of `unlabel`, for K labelled with KK: a tree as Read lays it out, one whose nodes share branches, one that lacks KK, two labelled in
+-- document 01's form, and the numbers of an answer. Assumes nothing.
+use mathlib.Core.Path.{_≡_, refl}
+use mathlib.Core.List.{[], _∷_}
+use lib.ListN.{replicate}
+use Rattle.calculus.specs.Tree.{leaf, stem, fork}
+use Rattle.table.specs.Nodes as table
+use Rattle.table.specs.Nodes.{lay}
+use Rattle.table.specs.Outcome as outcome
+use Rattle.table.specs.Refusal as refusal
+use Rattle.table.specs.declared.Refusal.the-variants.{Label}
+use Rattle.labelled.specs.Label.{labelled}
+use Rattle.labelled.specs.Unlabel as unlabelling
+use Rattle.labelled.specs.Unlabel.{unlabel, unlabelledNumbers}
+use Rattle.labelled.specs.declared.Unlabelled.the-variants.{Parts, Refused}
+
+-- 2120201021102010: the nodes of K and KK, which are not those of the K and the KK that the form has
+pub as-read : let m = lay (record { words = replicate 34 0; used = 0 }) (labelled (stem leaf) (fork leaf (stem leaf))) in
+    unlabel (m .table .words) (m .table .used) (m .node) ≡ Parts 5 11
+unfolding table.broken table.sound table.branches table.treeTo table.make table.lay outcome.fits outcome.atEntry unlabelling.isLeaf unlabelling.isStem unlabelling.isK unlabelling.isKK unlabelling.isKOf unlabelling.isLabelBranch unlabelling.isRuleBranch unlabelling.isLabelled unlabelling.labelNode unlabelling.ruleNode unlabelling.unlabelNode unlabelling.unlabel
+as-read = refl
+
+-- the same tree with one node for each of its branches: a leaf, K, KK, the stem of K, its fork with KK, K of KK, its stem, the whole
+pub shared : unlabel (0 ∷ 0 ∷ 1 ∷ 0 ∷ 1 ∷ 2 ∷ 2 ∷ 0 ∷ 4 ∷ 3 ∷ 1 ∷ 3 ∷ 6 ∷ 0 ∷ 7 ∷ 5 ∷ []) 8 7 ≡ Parts 1 2
+unfolding table.broken table.sound table.branches table.treeTo outcome.fits outcome.atEntry unlabelling.isLeaf unlabelling.isStem unlabelling.isK unlabelling.isKK unlabelling.isKOf unlabelling.isLabelBranch unlabelling.isRuleBranch unlabelling.isLabelled unlabelling.labelNode unlabelling.ruleNode unlabelling.unlabelNode unlabelling.unlabel
+shared = refl
+
+-- KΔ where the form has KK
+pub no-constant : unlabel (0 ∷ 0 ∷ 1 ∷ 0 ∷ 1 ∷ 1 ∷ 2 ∷ 0 ∷ 4 ∷ 3 ∷ 1 ∷ 3 ∷ 6 ∷ 0 ∷ 7 ∷ 5 ∷ []) 8 7 ≡ Refused Label
+unfolding table.broken table.sound table.branches table.treeTo outcome.fits outcome.atEntry unlabelling.isLeaf unlabelling.isStem unlabelling.isK unlabelling.isKK unlabelling.isKOf unlabelling.isLabelBranch unlabelling.isRuleBranch unlabelling.isLabelled unlabelling.labelNode unlabelling.ruleNode unlabelling.unlabelNode unlabelling.unlabel
+no-constant = refl
+
+-- "trees labelled earlier" ([4]): K labelled with a leaf, which is no K of anything, and with KK, which is the K of K
+pub earlier : (unlabel (0 ∷ 0 ∷ 1 ∷ 0 ∷ 1 ∷ 2 ∷ 2 ∷ 0 ∷ 4 ∷ 3 ∷ 1 ∷ 0 ∷ 6 ∷ 5 ∷ []) 7 6 ≡ Refused Label)
+    × (unlabel (0 ∷ 0 ∷ 1 ∷ 0 ∷ 1 ∷ 2 ∷ 2 ∷ 0 ∷ 4 ∷ 3 ∷ 3 ∷ 0 ∷ 6 ∷ 5 ∷ []) 7 6 ≡ Parts 1 1)
+unfolding table.broken table.sound table.branches table.treeTo outcome.fits outcome.atEntry unlabelling.isLeaf unlabelling.isStem unlabelling.isK unlabelling.isKK unlabelling.isKOf unlabelling.isLabelBranch unlabelling.isRuleBranch unlabelling.isLabelled unlabelling.labelNode unlabelling.ruleNode unlabelling.unlabelNode unlabelling.unlabel
+earlier = (refl, refl)
+
+-- the rule's node stands where other operations have theirs, the label's node last
+pub numbers : (unlabelledNumbers 7 (Parts 1 2) ≡ 0 ∷ 1 ∷ 7 ∷ 0 ∷ 0 ∷ 2 ∷ []) × (unlabelledNumbers 7 (Refused Label) ≡ 11 ∷ 0 ∷ 7 ∷ 0 ∷ 0 ∷ 0 ∷ [])
+unfolding unlabelling.unlabelledNumbers refusal.number
+numbers = (refl, refl)
