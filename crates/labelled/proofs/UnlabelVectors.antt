@@ -1,5 +1,5 @@
--- Worked examples of `unlabel`, for K labelled with KK: a tree as Read lays it out, one whose nodes share branches, one that lacks KK, two labelled in
--- document 01's form, and the numbers of an answer. Assumes nothing.
+-- Worked examples of `unlabel`: K labelled with KK, as Read lays it out and with branches shared; a tree that lacks KK; two in document 01's form; and
+-- the numbers of an answer. Assumes nothing.
 use mathlib.Core.Path.{_≡_, refl}
 use mathlib.Core.List.{[], _∷_}
 use lib.ListN.{replicate}

@@ -17,7 +17,7 @@ use Rattle.table.proofs.Words.{zero-one}
 use Rattle.table.proofs.Entry.{entered, entry-lacks, lacks-entry}
 use Rattle.labelled.specs.Label.{labelled}
 use Rattle.labelled.specs.Unlabel.{isLabelled, left, right, labelNode, ruleNode, unlabelNode, unlabel}
-use Rattle.labelled.specs.UnlabelClaims.{IsLabelled, Found, Given, Unlabels, UnlabelLacks, at-entry, not-in-use, not-labelled, labelledEarlier, IsKOf}
+use Rattle.labelled.specs.UnlabelClaims.{IsLabelled, Found, Given, Unlabels, TakenApart, UnlabelLacks, at-entry, not-in-use, not-labelled, labelledEarlier, IsKOf}
 use Rattle.labelled.specs.Branches.{InUse}
 use Rattle.labelled.specs.declared.Unlabelled.{Unlabelled}
 use Rattle.labelled.specs.declared.Unlabelled.the-variants.{Parts, Refused}
@@ -111,11 +111,23 @@ module _ (w : List ℕ) (u v : ℕ) where
         only = λ f t e. let m = holds f t i e in (cc (m .rule-tree), cc (m .label-tree));
       }
 
-  -- "trees labelled earlier" ([4]): 11 comes for such a tree exactly where its label is not itself a K of something.
-  pub unlabel-earlier : atEntry true w u [] ≡ none → v < u → (f t : Tree) → treeAt w v ≡ labelledEarlier f t → (unlabel w u v ≡ Refused Label) ↔ (IsKOf t → ⊥)
-  unlabel-earlier p h f t e =
-      (λ q k. go (unlabel-lacks Label .0 q) (rw e (earlier-exact f t .1 k)), λ n. stops (not-labelled p h (λ i. n (earlier-exact f t .0 (rw e at i)))))
-    where
-      go : UnlabelLacks w u v Label → IsLabelled (treeAt w v) → ⊥
-      go (not-labelled a b n) i = n i
-      go (at-entry l) i = zero-one (cc (p, lacks-entry l))
+  module _ (p : atEntry true w u [] ≡ none) (h : v < u) where
+    -- "The office reader of [1] expects this form" ([4])
+    pub unlabel-takes : (f t : Tree) → treeAt w v ≡ labelled f t → TakenApart w u v f t
+    unlabel-takes f t e =
+        let a = found-parts (record { entered = p; inside = h; tree = record { rule = f; label = t; form = e } }) in
+        let o = unlabel-gives a .only f t e in
+        record { rule = _; label = _; answer = a; rule-tree = o .0; label-tree = o .1 }
+
+    -- "trees labelled earlier" ([4]): 11 comes for such a tree exactly where its label is not itself a K of something.
+    pub unlabel-earlier : (f t : Tree) → treeAt w v ≡ labelledEarlier f t → (unlabel w u v ≡ Refused Label) ↔ (IsKOf t → ⊥)
+    unlabel-earlier f t e =
+        (λ q k. go (unlabel-lacks Label .0 q) (rw e (earlier-exact f t .1 k)), λ n. stops (not-labelled p h (λ i. n (earlier-exact f t .0 (rw e at i)))))
+      where
+        go : UnlabelLacks w u v Label → IsLabelled (treeAt w v) → ⊥
+        go (not-labelled a b n) i = n i
+        go (at-entry l) i = zero-one (cc (p, lacks-entry l))
+
+    -- Where it is the K of x, x is taken for the label.
+    pub unlabel-earlier-k : (f x : Tree) → treeAt w v ≡ labelledEarlier f (fork leaf x) → TakenApart w u v f x
+    unlabel-earlier-k f x e = unlabel-takes f x e

@@ -40,6 +40,14 @@ pub record Unlabels (w : List ℕ) (u v a b : ℕ) : Type 0 where
   pub tree : treeAt w v ≡ labelled (treeAt w a) (treeAt w b)
   pub only : (f t : Tree) → treeAt w v ≡ labelled f t → (treeAt w a ≡ f) × (treeAt w b ≡ t)
 
+-- `unlabel` gives nodes of the trees f and t out of node v
+pub record TakenApart (w : List ℕ) (u v : ℕ) (f t : Tree) : Type 0 where
+  pub rule : ℕ
+  pub label : ℕ
+  pub answer : unlabel w u v ≡ Parts rule label
+  pub rule-tree : treeAt w rule ≡ f
+  pub label-tree : treeAt w label ≡ t
+
 -- "Checks: 11, the tree isn't of the labelled form, after 3." ([1]): each refusal with its condition
 pub data UnlabelLacks (w : List ℕ) (u v : ℕ) : Refusal → Type 0 where
   at-entry : {e : Refusal} → EntryLacks true w u [] e → UnlabelLacks w u v e

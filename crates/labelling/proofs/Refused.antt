@@ -141,7 +141,7 @@ module _ (w s o l : List ℕ) where
       of-stages : {p : Packet} {t : Term} {v : List ℕ} {x : Tree} → LabelChecked w s o l p t v x → LabelStaged w s o t v x (labelPacket w s o l)
           → LabelRefuses w s o l (labelPacket w s o l) e
       of-stages c (staged.stops h k) = by (stops c h (k .within) (k .outcome))
-      of-stages c (staged.ends h r) = zero-one (cc)
+      of-stages c (staged.ends h f r) = zero-one (cc)
 
       go : Checking w s o l → LabelRefuses w s o l (labelPacket w s o l) e
       go (fails r) = by r
@@ -207,7 +207,7 @@ label-complete {w} {s} {o} {l} {t = t} {v = v} {x = x} c = go (label-checked c)
   where
     go : LabelStaged w s o t v x (labelPacket w s o l) → Labels w s o l (labelled (ruleTree t) x)
     go (staged.stops {e = e} h k) = inr (e, stops-few h, ap (λ (z : Outcome Ran). z .answer) (k .outcome))
-    go (staged.ends {z = z} h q) = inl (z .used, ap (λ (z : Outcome Ran). z .answer) q)
+    go (staged.ends {z = z} h f q) = inl (z .used, ap (λ (z : Outcome Ran). z .answer) q)
 
 -- 6 by what a packet's bytes are and not by a reader of them: it comes exactly where the bytes are no packet with a label.
 pub label-packet-exact : (w s o l : List ℕ) → Bytes l

@@ -15,9 +15,10 @@ use Rattle.ternary.specs.Read.{read}
 use Rattle.ternary.proofs.OneText.{text-read}
 use Rattle.ternary.proofs.Reading.{read-gives}
 use Rattle.labelled.specs.Label.{labelled}
-use Rattle.labelled.proofs.Unlabels.{found-parts, unlabel-gives}
+use Rattle.labelled.specs.UnlabelClaims.{TakenApart}
+use Rattle.labelled.proofs.Unlabels.{unlabel-takes}
 use Rattle.labelling.specs.LabelPacket.{labelPacket}
-use Rattle.labelling.specs.Claims.{LabelCompletes, TakenApart}
+use Rattle.labelling.specs.Claims.{LabelCompletes}
 
 -- "trees labelled earlier are made again from their packets" ([4]): where Read takes the text that `label_packet` wrote, into whatever table, `unlabel`
 -- gives nodes of the packet's rule and label.
@@ -31,6 +32,4 @@ remade {w} {s} {o} {l} {n = n} c w₂ u₂ s₂ v u′ q =
     let r = read-gives w₂ u₂ s₂ t v u′ q in
     let e : treeAt z v ≡ x = cc (r .places .tree, r .whole-text, c .written, text-read x) in
     let s : Entered true z u′ [] = record { table = r .places .fine; stack = omega arith; limits-kept = refl } in
-    let a = found-parts z u′ v (record { entered = enters s; inside = r .places .inside; tree = record { rule = ruleTree (c .term); label = c .label; form = e } }) in
-    let p = unlabel-gives z u′ v a .only (ruleTree (c .term)) (c .label) e in
-    record { rule = _; label = _; answer = a; rule-tree = p .0; label-tree = p .1 }
+    unlabel-takes z u′ v (enters s) (r .places .inside) (ruleTree (c .term)) (c .label) e

@@ -1,5 +1,5 @@
 -- The stages of `label_packet`, one after another: each goes on with what it made, or stops for what it lacks. Assumes nothing.
-use Prim.Native.Nat.{ℕ, _+_}
+use Prim.Native.Nat.{ℕ, _+_, _≤_}
 use mathlib.Core.Path.{_≡_, refl}
 use mathlib.Core.Bool.{true}
 use mathlib.Core.List.{List, [], _∷_, _++_}
@@ -46,7 +46,7 @@ pub record LabelEnds (w : List ℕ) (t : Term) (v : List ℕ) (z : Table) : Type
 -- the two kinds of the stages' outcome q
 pub data LabelStaged (w s o : List ℕ) (t : Term) (v : List ℕ) (x : Tree) (q : Outcome Ran) : Type 0 where
   stops : {e : Refusal} {m : ℕ} → LabelStops w s o t v x e m → Stopped w s o m e q → LabelStaged w s o t v x q
-  ends : {z : Table} → LabelEnds w t v z
+  ends : {z : Table} → LabelEnds w t v z → length (text (labelled (ruleTree t) x)) ≤ length o
       → q ≡ wholeOut (Text 0 (z .used) (length (text (labelled (ruleTree t) x))) noUses) (z .words) (zeros s)
       (text (labelled (ruleTree t) x) ++ drop (length (text (labelled (ruleTree t) x))) o)
       → LabelStaged w s o t v x q
@@ -91,7 +91,7 @@ module _ {w s o : List ℕ} (fit : Fit w s o) (t : Term) (v : List ℕ) (x : Tre
           count = omega (arith, g .used-is)
 
           end : Writing w s o z′ noUses (labelled (ruleTree t) x) (writes (r .table) u y o i noUses) → LabelStaged w s o t v x (writes (r .table) u y o i noUses)
-          end (written h q) = ends (record { fine = stands .fine; extends = stands .extends; used-is = count }) q
+          end (written h q) = ends (record { fine = stands .fine; extends = stands .extends; used-is = count }) h q
           end (not-written e h q) = stops (in-write had read-all (omega (arith, count, q .within)) h) (rw (← count) q)
       go (made.Refused e) q =
           stops (lacked (label-lacks (z .words) (z .used) f n e q)) (stop-here st (back-same (st .fine) (label-refused (z .words) (z .used) f n e q)) y (st .stack))

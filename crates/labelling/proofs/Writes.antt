@@ -13,7 +13,8 @@ use Rattle.calculus.specs.Abstraction.{ruleTree}
 use Rattle.table.specs.Outcome.{Outcome}
 use Rattle.table.proofs.Words.{zero-one}
 use Rattle.ternary.specs.Text.{text}
-use Rattle.ternary.proofs.Reading.{readable-some}
+use Rattle.ternary.proofs.OneText.{text-read}
+use Rattle.ternary.proofs.Reading.{readable-some, some-readable}
 use Rattle.labelled.specs.Label.{labelled}
 use Rattle.fields.specs.Packet.{Packet}
 use Rattle.running.specs.Run.{ranNumbers, ranUses}
@@ -31,7 +32,7 @@ label-writes w s o l j u n k q = go (checking w s o l)
   where
     of-stages : {p : Packet} {t : Term} {v : List ℕ} {x : Tree} → LabelChecked w s o l p t v x → LabelStaged w s o t v x (labelPacket w s o l) → LabelCompletes w s o l u n
     of-stages c (stops h e) = zero-one (cc (e .outcome))
-    of-stages {p} {t} {v} {x} c (ends {z = z} h e) =
+    of-stages {p} {t} {v} {x} c (ends {z = z} h f e) =
         let r = labelled (ruleTree t) x in
         let i : j ≡ 0 = cc in
         let a : k ≡ noUses = cc in
@@ -53,6 +54,7 @@ label-writes w s o l j u n k q = go (checking w s o l)
           digits-are = d;
           written = rw out (take-at (text r) (drop n o) n (sym d));
           out-is = out;
+          read-back = rw (out, take-at (text r) (drop n o) n (sym d)) (some-readable (record { short = omega (arith, c .checked .fit .out); tree-of = text-read r }));
           used-is = sym b ∙ h .used-is;
           stack = cc;
           same-length = ap length words ∙ h .extends .kept .same-length;

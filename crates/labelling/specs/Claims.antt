@@ -11,7 +11,7 @@ use Rattle.calculus.specs.Uses.{noUses}
 use Rattle.calculus.specs.Term.{Term}
 use Rattle.calculus.specs.Bytes.{rule}
 use Rattle.calculus.specs.Abstraction.{ruleTree}
-use Rattle.table.specs.Nodes.{capacity, Sound, treeAt, cleared}
+use Rattle.table.specs.Nodes.{capacity, Sound, cleared}
 use Rattle.table.specs.Outcome.{Outcome, wholeOut, frames, zeros}
 use Rattle.table.specs.declared.Refusal.{Refusal}
 use Rattle.table.specs.declared.Refusal.the-variants.{Limits, Rule, Nodes}
@@ -21,8 +21,6 @@ use Rattle.ternary.specs.Read.{readable}
 use Rattle.ternary.specs.Write.{lacks}
 use Rattle.ternary.specs.Held.{Spent}
 use Rattle.labelled.specs.Label.{labelled}
-use Rattle.labelled.specs.Unlabel.{unlabel}
-use Rattle.labelled.specs.declared.Unlabelled.the-variants.{Parts}
 use Rattle.fields.specs.Packet.{Packet, packet}
 use Rattle.running.specs.Run.{texts, ranNumbers, ranUses}
 use Rattle.running.specs.Claims.{Fit, Unreadable, Checked, TranslateStops, TranslateHad, ReadStops, ReadsHad, TooFew}
@@ -100,6 +98,8 @@ pub record LabelCompletes (w s o l : List ℕ) (u n : ℕ) : Type 0 where
   pub digits-are : n ≡ length (text (labelled (ruleTree term) label))
   pub written : take n (labelPacket w s o l .out) ≡ text (labelled (ruleTree term) label)
   pub out-is : labelPacket w s o l .out ≡ text (labelled (ruleTree term) label) ++ drop n o
+  -- Read takes it, given a table that passes 1 and 2, nodes and frames
+  pub read-back : readable (take n (labelPacket w s o l .out)) ≡ some (labelled (ruleTree term) label)
   -- the nodes in use: the rule's, one a digit of the label's text, and Label's eight
   pub used-is : u ≡ size (ruleTree term) + length value + 8
   -- "Success also sets the stack to 0, and no other table word than those of new nodes changes."
@@ -107,12 +107,3 @@ pub record LabelCompletes (w s o l : List ℕ) (u n : ℕ) : Type 0 where
   pub same-length : length (labelPacket w s o l .table) ≡ length w
   pub beyond : (i : ℕ) → 2 * u ≤ i → getD (labelPacket w s o l .table) i 0 ≡ getD w i 0
   pub fine : Sound (record { words = labelPacket w s o l .table; used = u })
-
--- "trees labelled earlier are made again from their packets" ([4]): out of node v of the table w, with u nodes in use, `unlabel` gives nodes of the
--- rule's tree f and of the label's tree t.
-pub record TakenApart (w : List ℕ) (u v : ℕ) (f t : Tree) : Type 0 where
-  pub rule : ℕ
-  pub label : ℕ
-  pub answer : unlabel w u v ≡ Parts rule label
-  pub rule-tree : treeAt w rule ≡ f
-  pub label-tree : treeAt w label ≡ t
