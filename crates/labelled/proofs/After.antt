@@ -96,8 +96,7 @@ parts t f l r =
     let rule-fork : left w (n5 .node) ≡ n4 .node =
     kept-left k5 (n5 .node) (inside (n4 .table) (n4 .node + 1) (n3 .node + 1)) ∙ made-left (n4 .table) (n4 .node + 1) (n3 .node + 1) (room g4 (omega arith) r) refl in
     let rule-stem : left w (n4 .node) ≡ f =
-    kept-left k4 (n4 .node) (inside (n3 .table) (f + 1) 0) ∙ made-left (n3 .table) (f + 1) 0 (room g3 (omega arith) r) refl in
-    (
+    kept-left k4 (n4 .node) (inside (n3 .table) (f + 1) 0) ∙ made-left (n3 .table) (f + 1) 0 (room g3 (omega arith) r) refl in (
       ap (λ (x : ℕ). left w (left w x)) whole-right ∙ ap (left w) rule-fork ∙ rule-stem,
       ap (λ (x : ℕ). right w (left w x)) whole-left ∙ ap (right w) label-stem ∙ label-fork,
     )
