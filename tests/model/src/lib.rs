@@ -583,7 +583,7 @@ pub fn label(memory: &mut Memory, used: usize, rule: usize, label: usize) -> Ans
     if rule >= used || label >= used {
         return refused(3, used);
     }
-    if memory.capacity() - used < 7 {
+    if memory.capacity() - used < 8 {
         return refused(8, used);
     }
     memory.put(used, 0, 0);
@@ -591,21 +591,27 @@ pub fn label(memory: &mut Memory, used: usize, rule: usize, label: usize) -> Ans
     memory.put(used + 2, used + 1, used + 2);
     memory.put(used + 3, rule + 1, 0);
     memory.put(used + 4, used + 4, used + 3);
-    memory.put(used + 5, label + 1, 0);
-    memory.put(used + 6, used + 6, used + 5);
-    [0, used + 6, used + 7, 0, 0]
+    // "the sixth is the fork of the first and t, then its stem, then the whole" ([4])
+    memory.put(used + 5, used + 1, label + 1);
+    memory.put(used + 6, used + 6, 0);
+    memory.put(used + 7, used + 7, used + 5);
+    [0, used + 7, used + 8, 0, 0]
 }
 
-/// The nodes of f and of t where a tree is Δ(Δt)(Δ(Δf)(KK)).
+/// The nodes of f and of t where a tree is Δ(Δ(Kt))(Δ(Δf)(KK)) ([4]). K is ΔΔ, so Kt is the fork of a
+/// leaf and t, and KK that of a leaf and a leaf's stem.
 fn parts(tree: &Tree) -> Option<(usize, usize)> {
     let (first, second) = fork(tree)?;
-    let t = stem(first)?;
+    let (leaf, t) = fork(stem(first)?)?;
     let (first, kk) = fork(second)?;
     let f = stem(first)?;
-    let mut text = Vec::new();
-    // K is ΔΔ, so KK is ΔΔ(ΔΔ), the fork of a leaf and a leaf's stem. Four digits tell it.
-    let written = digits(kk, 0, usize::MAX, 4, &mut text);
-    (written.is_ok() && text == b"2010").then_some((f.node, t.node))
+    (has_text(leaf, b"0") && has_text(kk, b"2010")).then_some((f.node, t.node))
+}
+
+/// Whether a tree has this text, by no more digits than the text has.
+fn has_text(tree: &Tree, text: &[u8]) -> bool {
+    let mut written = Vec::new();
+    digits(tree, 0, usize::MAX, text.len(), &mut written).is_ok() && written == text
 }
 
 fn stem(tree: &Tree) -> Option<&Tree> {

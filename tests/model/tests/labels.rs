@@ -1,14 +1,15 @@
 //! The model's readers of labelled packets and trees against documents 01 and 02. The rule of document
 //! 01's packet, 02 01 03 00 03 00, is 212101021010, twelve nodes; its label here is 10, two nodes; so
-//! the labelled tree Δ(Δt)(Δ(Δf)(KK)) is 2 1 10 2 1 212101021010 2010.
+//! the labelled tree Δ(Δ(Kt))(Δ(Δf)(KK)) is 2 1 20 10 2 1 212101021010 2010.
 
-use model::{label, label_packet, label_packet_to, read, run, unlabel, write, Memory, Stage};
+use model::{apply, label, label_packet, label_packet_to, read, run, unlabel, write};
+use model::{Memory, Stage};
 
 const RULE: &[u8] = &[1, 0, 6, 2, 1, 3, 0, 3, 0];
 const ARGUMENT: &[u8] = b"\x02\x00\x010";
 const LIMIT: &[u8] = &[3, 0, 4, 0, 0, 0, 10];
 const LABEL: &[u8] = b"\x04\x00\x0210";
-const TEXT: &[u8] = b"2110212121010210102010";
+const TEXT: &[u8] = b"212010212121010210102010";
 
 /// Memory that no operation has written to.
 fn memory(nodes: usize, frames: usize, out: usize) -> Memory {
@@ -94,7 +95,7 @@ fn the_longest_packet() {
     let [longest, longer] = [packet(16_371), packet(16_372)];
     assert_eq!(longest.len(), 16_384);
     let on_a_large_stack = move || {
-        let refusal = |packet: &[u8]| label_packet(&mut memory(12, 6, 13), packet)[0];
+        let refusal = |packet: &[u8]| label_packet(&mut memory(13, 6, 15), packet)[0];
         assert_eq!([refusal(&longest), refusal(&longer)], [0, 6]);
     };
     let thread = std::thread::Builder::new().stack_size(1 << 28);
@@ -105,7 +106,7 @@ fn the_longest_packet() {
         .is_ok());
 }
 
-/// 12 nodes and 24 frames by Translate, 2 nodes by Read, 7 by Label, 22 digits by Write.
+/// 12 nodes and 24 frames by Translate, 2 nodes by Read, 8 by Label, 24 digits by Write.
 #[test]
 fn the_stages_of_label_packet() {
     let packet = [RULE, ARGUMENT, LABEL].concat();
@@ -115,24 +116,24 @@ fn the_stages_of_label_packet() {
         let (answer, stage) = label_packet_to(&mut after, &packet);
         (answer, stage, found, after)
     };
-    let (answer, stage, found, after) = ends(21, 24, 23);
-    assert_eq!((answer, stage), ([0, 0, 21, 0, 22], Stage::Write));
-    assert_eq!(after.out, [TEXT, &found.out[22..]].concat());
+    let (answer, stage, found, after) = ends(22, 24, 25);
+    assert_eq!((answer, stage), ([0, 0, 22, 0, 24], Stage::Write));
+    assert_eq!(after.out, [TEXT, &found.out[24..]].concat());
     assert!(after.stack.iter().all(|word| *word == 0));
-    // Label's seven, after the rule's node 11 and the label's node 13; the last word is no node's.
+    // Label's eight, after the rule's node 11 and the label's node 13; the last word is no node's.
     assert_eq!(
         after.table[28..],
-        [0, 0, 15, 0, 15, 16, 12, 0, 18, 17, 14, 0, 20, 19, 77]
+        [0, 0, 15, 0, 15, 16, 12, 0, 18, 17, 15, 14, 20, 0, 21, 19, 77]
     );
     for ([nodes, frames, out], number, stage, made) in [
-        ([11, 24, 22], 8, Stage::Translate, 0),
-        ([11, 23, 22], 8, Stage::Translate, 0),
-        ([21, 23, 22], 9, Stage::Translate, 0),
-        ([13, 24, 22], 8, Stage::Read, 12),
-        ([20, 24, 22], 8, Stage::Label, 14),
-        ([14, 24, 22], 8, Stage::Label, 14),
-        ([21, 24, 21], 10, Stage::Write, 21),
-        ([21, 24, 0], 10, Stage::Write, 21),
+        ([11, 24, 24], 8, Stage::Translate, 0),
+        ([11, 23, 24], 8, Stage::Translate, 0),
+        ([22, 23, 24], 9, Stage::Translate, 0),
+        ([13, 24, 24], 8, Stage::Read, 12),
+        ([21, 24, 24], 8, Stage::Label, 14),
+        ([14, 24, 24], 8, Stage::Label, 14),
+        ([22, 24, 23], 10, Stage::Write, 22),
+        ([22, 24, 0], 10, Stage::Write, 22),
     ] {
         let (answer, at, found, after) = ends(nodes, frames, out);
         assert_eq!((answer, at), ([number, 0, 0, 0, 0], stage));
@@ -159,20 +160,129 @@ fn frames_of_the_label() {
 fn unlabelled() {
     let mut memory = memory(60, 30, 60);
     let [_, node, used, ..] = read(&mut memory, 0, TEXT);
-    // Digit p of 22 is node 21 - p: the label begins at 2 and the rule at 6.
+    // Digit p of 24 is node 23 - p: the label begins at 4 and the rule at 8.
     let answer = unlabel(&memory.table, used, node);
-    assert_eq!(answer, [0, 15, 22, 0, 0, 19]);
+    assert_eq!(answer, [0, 15, 24, 0, 0, 19]);
     let [_, rule, .., tree] = answer;
     for (node, text) in [(rule, &b"212101021010"[..]), (tree, b"10")] {
         let digits = write(&mut memory, used, node)[4];
         assert_eq!(memory.out[..digits], *text);
     }
     let [_, node, used, ..] = label(&mut memory, used, 3, 5);
-    assert_eq!(unlabel(&memory.table, used, node), [0, 3, 29, 0, 0, 5]);
+    assert_eq!(unlabel(&memory.table, used, node), [0, 3, 32, 0, 0, 5]);
     // 1, 2, 3, 11.
     assert_eq!(unlabel(&memory.table, 61, node), [1, 0, 61, 0, 0, 0]);
     assert_eq!(unlabel(&[0; 131_073], 1, 0), [1, 0, 1, 0, 0, 0]);
-    assert_eq!(unlabel(&memory.table, 30, node), [2, 0, 30, 0, 0, 0]);
-    assert_eq!(unlabel(&memory.table, used, used), [3, 0, 29, 0, 0, 0]);
-    assert_eq!(unlabel(&memory.table, used, rule), [11, 0, 29, 0, 0, 0]);
+    assert_eq!(unlabel(&memory.table, 33, node), [2, 0, 33, 0, 0, 0]);
+    assert_eq!(unlabel(&memory.table, used, used), [3, 0, 32, 0, 0, 0]);
+    assert_eq!(unlabel(&memory.table, used, rule), [11, 0, 32, 0, 0, 0]);
+}
+
+/// `unlabel` of a text's tree, read into an empty table.
+fn unlabelled_text(text: &str) -> [usize; 6] {
+    let mut memory = memory(60, 30, 0);
+    let [refusal, node, used, ..] = read(&mut memory, 0, text.as_bytes());
+    assert_eq!(refusal, 0, "{text}");
+    unlabel(&memory.table, used, node)
+}
+
+/// 11 where one place of Δ(Δ(Kt))(Δ(Δf)(KK)) has another tree.
+#[test]
+fn other_forms() {
+    let (f, t) = ("200", "10");
+    // Digit p of 15 is node 14 - p: the label begins at 4 and the rule at 8.
+    let whole = unlabelled_text(&format!("2120{t}21{f}2010"));
+    assert_eq!(whole, [0, 6, 15, 0, 0, 10]);
+    for text in [
+        // The whole: its stem, and its branches the other way round.
+        format!("12120{t}21{f}2010"),
+        format!("221{f}2010120{t}"),
+        // Δ(Kt): Kt, and a fork of it.
+        format!("220{t}21{f}2010"),
+        format!("2220{t}021{f}2010"),
+        // Kt: t, Δt, and KΔt, whose first branch is no leaf.
+        format!("21{t}21{f}2010"),
+        format!("211{t}21{f}2010"),
+        format!("21210{t}21{f}2010"),
+        // Δ(Δf)(KK): f, and Δf.
+        format!("2120{t}{f}"),
+        format!("2120{t}1{f}"),
+        // Δf: f, and Kf. K before the rule and not before the label.
+        format!("2120{t}2{f}2010"),
+        format!("2120{t}220{f}2010"),
+        format!("21{t}2120{f}2010"),
+        // KK: Δ, K, KΔ, K(KΔ), ΔKΔ and ΔKK.
+        format!("2120{t}21{f}0"),
+        format!("2120{t}21{f}10"),
+        format!("2120{t}21{f}200"),
+        format!("2120{t}21{f}20200"),
+        format!("2120{t}21{f}2100"),
+        format!("2120{t}21{f}21010"),
+    ] {
+        assert_eq!(unlabelled_text(&text)[0], 11, "{text}");
+    }
+}
+
+/// "trees labelled earlier are made again from their packets": Δ(Δt)(Δ(Δf)(KK)) is 11, unless t is Kx
+/// for some x, which is then the label.
+#[test]
+fn labelled_earlier() {
+    let earlier = |t: &str| unlabelled_text(&format!("21{t}212121010210102010"));
+    for t in ["0", "10", "110", "2100", "21010", "212101021010"] {
+        assert_eq!(earlier(t)[0], 11, "{t}");
+    }
+    // Digit p of 23 is node 22 - p: x begins at 4 and the rule at 7. Of 24 digits the rule begins at 8.
+    assert_eq!(earlier("200"), [0, 15, 23, 0, 0, 18]);
+    assert_eq!(earlier("2010"), [0, 15, 24, 0, 0, 19]);
+}
+
+/// A table with the trees of these texts, and their nodes.
+fn planted<const N: usize>(texts: [&str; N]) -> (Memory, [usize; N], usize) {
+    let (mut memory, mut used) = (memory(1_200, 1_000, 0), 0);
+    let nodes = texts.map(|text| {
+        let [refusal, node, more, ..] = read(&mut memory, used, text.as_bytes());
+        assert_eq!(refusal, 0, "{text}");
+        used = more;
+        node
+    });
+    (memory, nodes, used)
+}
+
+/// "a labelled rule on an argument gives the rule's tree in exactly six more steps": a stem, three drops
+/// and two spreads, and one new node. The label, λx. x x, never ends on the argument, itself.
+#[test]
+fn six_more_steps() {
+    // KΔ drops the argument, and λx. x gives it by a spread, a stem, a leaf and a drop.
+    for (rule, uses, outcome) in [("200", [0, 0, 1, 0, 0], 0), ("21010", [1, 1, 1, 1, 0], 16)] {
+        let (mut memory, [rule, tree], used) = planted([rule, "212101021010"]);
+        let steps: usize = uses.iter().sum();
+        let [leaf, stem, drop, spread, triage] = uses;
+        let alone = apply(&mut memory.clone(), used, rule, tree, steps);
+        assert_eq!(alone[..5], [0, outcome, used + leaf + stem, steps, 0]);
+        assert_eq!(alone[5..], uses);
+        let [_, node, used, ..] = label(&mut memory, used, rule, tree);
+        let labelled = apply(&mut memory.clone(), used, node, tree, steps + 6);
+        assert_eq!(
+            labelled[..5],
+            [0, outcome, used + leaf + stem + 1, steps + 6, 0]
+        );
+        assert_eq!(
+            labelled[5..],
+            [leaf, stem + 1, drop + 3, spread + 2, triage]
+        );
+        assert_eq!(apply(&mut memory, used, node, tree, steps + 5)[0], 7);
+    }
+}
+
+/// "has no tree where the rule has none"; and without K the label is worked out, here without end.
+#[test]
+fn endless() {
+    let (mut memory, [endless, leaf, without], used) =
+        planted(["212101021010", "0", "21212101021010212002010"]);
+    assert_eq!(
+        apply(&mut memory.clone(), used, without, endless, 1_000)[0],
+        7
+    );
+    let [_, node, used, ..] = label(&mut memory, used, endless, leaf);
+    assert_eq!(apply(&mut memory, used, node, endless, 1_000)[0], 7);
 }
