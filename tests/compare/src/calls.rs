@@ -1,17 +1,18 @@
 //! Read, Write, Translate, Apply, Label and `unlabel` beside the model, on tables that are sound, broken
 //! or noise, with lengths and numbers at and beyond every border.
 
-use crate::{difference, hexadecimal, Counts, Noise};
+use crate::{difference, hexadecimal, unlabel, Counts, Noise};
 use compare::random::Random;
 use compare::trees;
-use compare::{answer_of, counted_of, parts_of};
+use compare::{answer_of, counted_of, LABEL_NODES};
 use model::Memory;
 
-/// An operation, with the refusals that it can meet.
+/// An operation, with the refusals that it can meet, and the kinds of its calls that are counted.
 #[derive(Clone, Copy)]
 pub struct Operation {
     pub name: &'static str,
     pub refusals: &'static [usize],
+    pub kinds: &'static [&'static str],
     call: fn(&mut Random, &Noise) -> Call,
 }
 
@@ -19,59 +20,76 @@ pub const OPERATIONS: [Operation; 6] = [
     Operation {
         name: "Read",
         refusals: &[1, 2, 4, 8, 9],
+        kinds: &[],
         call: read,
     },
     Operation {
         name: "Write",
         refusals: &[1, 2, 3, 9, 10],
+        kinds: &[],
         call: write,
     },
     Operation {
         name: "Translate",
         refusals: &[1, 2, 5, 8, 9],
+        kinds: &[],
         call: translate,
     },
     Operation {
         name: "Apply",
         refusals: &[1, 2, 3, 7, 8, 9],
+        kinds: &[],
         call: apply,
     },
     Operation {
         name: "Label",
         refusals: &[1, 2, 3, 8],
+        kinds: &[],
         call: label,
     },
     Operation {
         name: "Unlabel",
         refusals: &[1, 2, 3, 11],
-        call: unlabel,
+        kinds: &unlabel::KINDS,
+        call: unlabel::unlabel,
     },
 ];
 
-/// A call that was made: the model's refusal, and what it was where the engine differs.
+/// A call that was made: the model's refusal, its place among the kinds that are counted, if it is of
+/// one, and what it was where the engine differs.
 pub struct Call {
     pub refusal: usize,
+    pub kind: Option<usize>,
     pub difference: Option<String>,
 }
 
-/// Makes so many calls; how often each refusal was met, and how many differ.
-pub fn compare(
-    random: &mut Random,
-    noise: &Noise,
-    operation: Operation,
-    calls: usize,
-) -> (Counts, usize) {
-    let mut counts = Counts::default();
-    let mut differences = 0;
+/// What came of calls: how often each refusal was met, and 0 for success; how many were of each kind;
+/// and how many differ.
+pub struct Compared {
+    pub counts: Counts,
+    pub kinds: Vec<usize>,
+    pub differences: usize,
+}
+
+/// Makes so many calls.
+pub fn compare(random: &mut Random, noise: &Noise, operation: Operation, calls: usize) -> Compared {
+    let mut compared = Compared {
+        counts: Counts::default(),
+        kinds: vec![0; operation.kinds.len()],
+        differences: 0,
+    };
     for _ in 0..calls {
         let call = (operation.call)(random, noise);
-        counts[call.refusal] += 1;
+        compared.counts[call.refusal] += 1;
+        if let Some(kind) = call.kind {
+            compared.kinds[kind] += 1;
+        }
         if let Some(difference) = call.difference {
-            differences += 1;
+            compared.differences += 1;
             println!("{} {difference}", operation.name);
         }
     }
-    (counts, differences)
+    compared
 }
 
 /// Makes one call on two copies of a memory.
@@ -88,6 +106,7 @@ pub fn both<const N: usize>(
     let differs = answer != modelled || place.is_some();
     Call {
         refusal: modelled[0],
+        kind: None,
         difference: differs.then(|| {
             format!(
                 "{}, {} words of stack, {} out bytes, table {:?}\nengine: {answer:?}\nmodel:  {modelled:?}\n{}",
@@ -120,7 +139,7 @@ fn odd_number(random: &mut Random) -> usize {
 }
 
 /// The first `used` nodes of a table as random nodes that are not broken.
-fn sow(random: &mut Random, table: &mut [u32], used: usize) {
+pub fn sow(random: &mut Random, table: &mut [u32], used: usize) {
     for i in 0..used {
         let branch = |random: &mut Random| {
             if i > 6 && random.once_in(2) {
@@ -173,7 +192,7 @@ fn words(random: &mut Random) -> usize {
 }
 
 /// Memory with a table that has some nodes in use: sound, broken at one node, or mere noise.
-fn memory(random: &mut Random, noise: &Noise, stack: usize, out: usize) -> (Memory, usize) {
+pub fn memory(random: &mut Random, noise: &Noise, stack: usize, out: usize) -> (Memory, usize) {
     let words = words(random);
     let mut memory = noise.memory(random, words, stack, out);
     let capacity = words / 2;
@@ -191,7 +210,7 @@ fn memory(random: &mut Random, noise: &Noise, stack: usize, out: usize) -> (Memo
 }
 
 /// Now and then breaks one of the nodes in use, or has too many in use; how many are in use then.
-fn spoil(random: &mut Random, table: &mut [u32], used: usize) -> usize {
+pub fn spoil(random: &mut Random, table: &mut [u32], used: usize) -> usize {
     match random.below(60) {
         0 => return table.len() / 2 + random.within(1, 3),
         1 => return odd_number(random),
@@ -228,7 +247,7 @@ fn stack(random: &mut Random) -> usize {
 }
 
 /// A node number that is most often in use.
-fn node(random: &mut Random, used: usize) -> usize {
+pub fn node(random: &mut Random, used: usize) -> usize {
     match random.below(40) {
         0 => used,
         1 => odd_number(random),
@@ -364,6 +383,16 @@ fn apply(random: &mut Random, noise: &Noise) -> Call {
             }
         }
     }
+    apply_in(memory, used, [function, argument], limit)
+}
+
+/// Apply of one node to another in a memory.
+pub fn apply_in(
+    memory: Memory,
+    used: usize,
+    [function, argument]: [usize; 2],
+    limit: usize,
+) -> Call {
     both(
         memory,
         || format!("{function} to {argument}, limit {limit}, {used} nodes in use"),
@@ -385,7 +414,7 @@ fn label(random: &mut Random, noise: &Noise) -> Call {
     let (mut memory, used) = memory(random, noise, 5, 5);
     let (rule, label) = (node(random, used), node(random, used));
     if random.once_in(3) && used <= memory.table.len() / 2 {
-        let words = 2 * random.near(used + 7) + random.below(2);
+        let words = 2 * random.near(used + LABEL_NODES) + random.below(2);
         memory.table.resize(words, 3);
     }
     both(
@@ -393,167 +422,5 @@ fn label(random: &mut Random, noise: &Noise) -> Call {
         || format!("{rule} with {label}, {used} nodes in use"),
         |m| answer_of(lazvorn::label(&mut m.table, used, rule, label)),
         |m| model::label(m, used, rule, label),
-    )
-}
-
-/// A labelled tree in a table: its node, and the nodes of its rule and its label.
-struct Labelled {
-    table: Vec<u32>,
-    used: usize,
-    node: usize,
-    rule: usize,
-    label: usize,
-}
-
-/// A labelled tree as Label makes it of two nodes of a sound table.
-fn by_label(random: &mut Random, noise: &Noise) -> Labelled {
-    let words = 2 * random.within(1, 200);
-    let mut table = noise.memory(random, words, 0, 0).table;
-    let used = random.within(1, words / 2);
-    sow(random, &mut table, used);
-    table.resize(words.max(2 * used + 14), 7);
-    let (rule, label) = (random.below(used), random.below(used));
-    let made = lazvorn::label(&mut table, used, rule, label);
-    Labelled {
-        table,
-        used: made.used,
-        node: made.node,
-        rule,
-        label,
-    }
-}
-
-/// A labelled tree as Read makes it of its text: digit p of n is node used + n - 1 - p, and the label
-/// begins at digit 2, the rule two digits after it.
-fn by_read(random: &mut Random, noise: &Noise) -> Labelled {
-    let (rule, label) = (trees::text(random), trees::text(random));
-    let text = [b"21", &label[..], b"21", &rule, b"2010"].concat();
-    let before = random.below(20);
-    let words = 2 * (before + text.len()) + random.below(9);
-    let mut memory = noise.memory(random, words, 65_536, 0);
-    sow(random, &mut memory.table, before);
-    let read = lazvorn::read(&mut memory.table, before, &mut memory.stack, &text);
-    Labelled {
-        table: memory.table,
-        used: read.used,
-        node: read.node,
-        rule: read.node - 4 - label.len(),
-        label: read.node - 2,
-    }
-}
-
-/// The branch word of a node with these words, one that is there or a new one, after another at times.
-fn put(random: &mut Random, table: &mut Vec<u32>, words: [u32; 2]) -> u32 {
-    if random.once_in(3) {
-        let any = random.within(0, table.len() / 2) as u32;
-        table.extend([any, if random.once_in(2) { any } else { 0 }]);
-    }
-    let there = table.chunks(2).position(|node| node == words);
-    match there.filter(|_| random.once_in(2)) {
-        Some(node) => node as u32 + 1,
-        None => {
-            table.extend(words);
-            table.len() as u32 / 2
-        }
-    }
-}
-
-/// A labelled tree whose nodes were made in some order, with others between them, and that shares nodes
-/// with itself and with these.
-fn scattered(random: &mut Random) -> Labelled {
-    let used = random.within(1, 6);
-    let mut table = vec![0; 2 * used];
-    sow(random, &mut table, used);
-    let mut put = |random: &mut Random, words| put(random, &mut table, words);
-    let parts = [(); 2].map(|()| random.within(1, used) as u32);
-    let early = [(); 2].map(|()| random.once_in(2));
-    let mut stems = [0; 2];
-    for i in (0..2).filter(|i| early[*i]) {
-        stems[i] = put(random, [parts[i], 0]);
-    }
-    let leaves = [(); 2].map(|()| put(random, [0, 0]));
-    let k = put(random, [leaves[0], 0]);
-    let kk = put(random, [leaves[1], k]);
-    for i in (0..2).filter(|i| !early[*i]) {
-        stems[i] = put(random, [parts[i], 0]);
-    }
-    let second = put(random, [stems[0], kk]);
-    let node = put(random, [stems[1], second]);
-    let [node, rule, label] = [node, parts[0], parts[1]].map(|word| word as usize - 1);
-    Labelled {
-        used: table.len() / 2,
-        table,
-        node,
-        rule,
-        label,
-    }
-}
-
-/// The nodes that make up the form of a labelled tree: Δ(Δt)(Δ(Δf)(KK)) but for t and f.
-fn form(labelled: &Labelled) -> [usize; 8] {
-    let branch = |node: usize, i: usize| labelled.table[2 * node + i] as usize - 1;
-    let root = labelled.node;
-    let (label_stem, second) = (branch(root, 0), branch(root, 1));
-    let (rule_stem, kk) = (branch(second, 0), branch(second, 1));
-    let (leaf, k) = (branch(kk, 0), branch(kk, 1));
-    [
-        root,
-        label_stem,
-        second,
-        rule_stem,
-        kk,
-        leaf,
-        k,
-        branch(k, 0),
-    ]
-}
-
-/// Any table and any node; or a labelled tree, which must come apart into the rule and the label it
-/// was made of; or such a tree with one node of its form changed.
-fn unlabel(random: &mut Random, noise: &Noise) -> Call {
-    let mut labelled = match random.below(8) {
-        0 | 1 => {
-            let (memory, used) = memory(random, noise, 5, 5);
-            let node = node(random, used);
-            return unlabel_in(memory, used, node);
-        }
-        2 | 3 => by_label(random, noise),
-        4 => by_read(random, noise),
-        _ => scattered(random),
-    };
-    let known = random.once_in(2);
-    if !known {
-        // Other words at one node of the form, which are sound.
-        let i = *random.pick(&form(&labelled));
-        let branch = |random: &mut Random| random.within(0, i) as u32;
-        let first = branch(random);
-        let second = if first == 0 { 0 } else { branch(random) };
-        let second = if random.once_in(2) { second } else { 0 };
-        labelled.table[2 * i..2 * i + 2].copy_from_slice(&[first, second]);
-    }
-    let mut memory = noise.memory(random, 0, 5, 5);
-    memory.table = labelled.table;
-    let (used, node) = (labelled.used, labelled.node);
-    if known {
-        let mut call = unlabel_in(memory.clone(), used, node);
-        let answer = model::unlabel(&memory.table, used, node);
-        if answer != [0, labelled.rule, used, 0, 0, labelled.label] {
-            call.difference = Some(format!(
-                "of {} labelled with {}: {answer:?} by the model",
-                labelled.rule, labelled.label
-            ));
-        }
-        return call;
-    }
-    let used = spoil(random, &mut memory.table, used);
-    unlabel_in(memory, used, node)
-}
-
-fn unlabel_in(memory: Memory, used: usize, node: usize) -> Call {
-    both(
-        memory,
-        || format!("{node}, {used} nodes in use"),
-        |m| parts_of(lazvorn::unlabel(&m.table, used, node)),
-        |m| model::unlabel(&m.table, used, node),
     )
 }

@@ -8,9 +8,10 @@ use compare::random::Random;
 use compare::{answer_of, labelled_line, PAPERS};
 use model::{Answer, Stage};
 
-/// What each stage can lack. Write cannot lack a frame: the labelled tree's two forks are held one after
-/// the other, the first while the label is written, which holds one frame less than its Read had, and
-/// the second while the rule is, for each of whose nodes Translate had two frames.
+/// What each stage can lack. Write cannot lack a frame: the fork of the whole is held while the label is
+/// written, which holds one frame less than its Read had, and beside it for one leaf the fork of that
+/// leaf and the label; then the fork of the rule's stem and KK while the rule is written, for each of
+/// whose nodes Translate had two frames.
 pub const LACKS: [(Stage, usize); 6] = [
     (Stage::Translate, 8),
     (Stage::Translate, 9),

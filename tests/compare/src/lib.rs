@@ -7,13 +7,17 @@ pub mod random;
 pub mod texts;
 pub mod trees;
 
-/// What the second evaluator goes by: document 01 and, of document 02, [2] and [1]. It tells the uses
-/// of each rule ([5]) whatever holds.
+/// What the second evaluator goes by: document 01 and, of document 02, [2], [1] and [4]. It tells the
+/// uses of each rule ([5]) whatever holds.
 pub const PAPERS: second::Papers = second::Papers {
     default_limit: 100_000,
     labels: true,
+    constant_labels: true,
     ..second::DOCUMENT_01
 };
+
+/// "Eight nodes are needed" to label a rule ([4]).
+pub const LABEL_NODES: usize = 8;
 
 /// What the second evaluator says of a packet's labelled rule, as the program `label_packet` prints it.
 pub fn labelled_line(labelled: &Result<(usize, String), second::Refusal>) -> String {

@@ -1,18 +1,21 @@
 //! Compares the engine with the second evaluator on packets, run and labelled, and with the model on
 //! packets, on calls of each operation, on texts and their beginnings and on rule texts: answers and
-//! every lent word and byte. Rule texts printed from random expressions are held to the expressions
-//! too. Prints each difference, of rule texts the first few, how often each refusal was met, how many
-//! packets used each rule, what became of labels, and how often each stage of a labelling lacked room.
-//! The exit status is 1 where anything differs, and where one of these that can be met was met too
-//! seldom for the run to mean something.
+//! every lent word and byte. Labelled rules are held to the rules alone too, and rule texts printed from
+//! random expressions to the expressions. Prints each difference, of rule texts the first few, how often
+//! each refusal was met, how many packets used each rule, what became of labels, how often each stage of
+//! a labelling lacked room, what kinds of trees were taken apart, and how many labelled rules ran beside
+//! a label, or were rules, that never ended. The exit status is 1 where anything differs, and where one
+//! of these that can be met was met too seldom for the run to mean something.
 //!
 //! `compare [PACKETS [SEED]]`
 
 mod beginnings;
 mod calls;
+mod labelled_rules;
 mod labels;
 mod rule_texts;
 mod runs;
+mod unlabel;
 
 use compare::packets::{self, WRONG_LABELS};
 use compare::random::Random;
@@ -27,9 +30,13 @@ const EXPRESSIONS: usize = 20_000;
 /// How many whole texts are cut to beginnings.
 const BEGINNINGS: usize = 20_000;
 
+/// How many rules are labelled and applied.
+const LABELLED_RULES: usize = 4_000;
+
 /// How often a packet that is run must meet each refusal from 4 to 10, in how many that succeed each
-/// rule must be used, how often each kind of label must be met, and how often a labelling must meet each
-/// refusal and lack each thing that it can.
+/// rule must be used, how often each kind of label must be met, how often a labelling must meet each
+/// refusal and lack each thing that it can, how many trees of each kind must be taken apart, and how
+/// often a labelled rule must end, lack a step, have a label that never ends, and never end itself.
 const SELDOM: usize = 100;
 
 const RULES: [&str; 5] = ["leaf", "stem", "drop", "spread", "triage"];
@@ -184,17 +191,37 @@ fn compare_packets(random: &mut Random, noise: &Noise, packets: usize) -> usize 
 fn compare_calls(random: &mut Random, noise: &Noise) -> usize {
     let mut differences = 0;
     for operation in calls::OPERATIONS {
-        let (counts, more) = calls::compare(random, noise, operation, CALLS);
-        print(operation.name, &counts, 1..=11);
+        let compared = calls::compare(random, noise, operation, CALLS);
+        print(operation.name, &compared.counts, 1..=11);
         for number in operation.refusals {
-            if counts[*number] == 0 {
+            if compared.counts[*number] == 0 {
                 println!("{}: refusal {number} was never met", operation.name);
                 differences += 1;
             }
         }
-        differences += more;
+        if !operation.kinds.is_empty() {
+            let kinds = operation.kinds.iter().zip(compared.kinds);
+            let kinds = kinds.map(|(kind, n)| (kind.to_string(), n)).collect();
+            differences += print_met("trees", &kinds);
+        }
+        differences += compared.differences;
     }
     differences
+}
+
+/// Compares labelled rules with the rules alone; how many differ, and how many outcomes were met too
+/// seldom.
+fn compare_labelled_rules(random: &mut Random, noise: &Noise) -> usize {
+    let outcome = labelled_rules::compare(random, noise, LABELLED_RULES);
+    print("labelled", &outcome.counts, [7]);
+    print("filed", &outcome.filed, [7, 10]);
+    let met = vec![
+        ("labels without a tree".to_string(), outcome.endless_labels),
+        ("rules without a tree".to_string(), outcome.endless_rules),
+    ];
+    let counts = [outcome.counts, outcome.filed];
+    let seldom: usize = counts.iter().map(|counts| seldom(counts, [0, 7])).sum();
+    outcome.differences + seldom + print_met("labelled", &met)
 }
 
 /// Compares texts and their beginnings; how many differ.
@@ -221,6 +248,7 @@ fn main() {
     let of_the_rest = || {
         let random = &mut Random::new(seed + 2);
         compare_calls(random, noise)
+            + compare_labelled_rules(random, noise)
             + compare_texts(random, noise)
             + compare_beginnings(random, noise)
     };

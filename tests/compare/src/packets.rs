@@ -3,7 +3,7 @@
 //! a packet needs.
 
 use crate::random::Random;
-use crate::trees;
+use crate::{trees, LABEL_NODES};
 
 /// The parts of a packet that is well formed as far as its fields go.
 #[derive(Clone)]
@@ -436,7 +436,7 @@ pub fn at_border(
 pub fn at_label_border(random: &mut Random, case: &Case, used: usize, digits: usize) -> Case {
     let mut case = case.clone();
     let text = case.parts.as_ref().and_then(|parts| parts.label.as_ref());
-    let read = used - 7;
+    let read = used - LABEL_NODES;
     let translated = read - text.map_or(0, |text| text.len());
     match random.below(4) {
         0 => case.room.table = nodes_near(random, translated),

@@ -66,7 +66,8 @@ pub fn kept(before: &Memory, after: &Memory, answer: &[usize]) -> bool {
     }
 }
 
-fn run(memory: &mut Memory, packet: &[u8]) -> Counted {
+/// The engine's Run.
+pub fn run(memory: &mut Memory, packet: &[u8]) -> Counted {
     counted_of(lazvorn::run(
         &mut memory.table,
         &mut memory.stack,
