@@ -29,6 +29,9 @@
 //!                                 texts of these
 //! d TREE TREE                     Label of the first tree with the second, then `unlabel`: what n
 //!                                 prints
+//! f NODES FRAMES LIMIT TREE TREE TREE ..
+//!                                 Label of the first tree with the second, and that applied to the
+//!                                 third, and so on: what a prints
 //! u LETTER USED A B WORD ..       in a table of these words, Read (r) of 0, Write (w) of node A,
 //!                                 Translate (t) of 02 00, Apply (a) of A to B under the limit 100,
 //!                                 Label (l) of A with B, `unlabel` (n) of A: what the command of that
@@ -37,6 +40,10 @@
 //!                                 program's line
 //! k BYTES                         `label_packet` with this room: the line of the program of this name
 //! o NODES FRAMES OUT BYTES        `label_packet` with so much room: 0, used, digits, text
+//! v BYTES                         `label_packet` as by k, then `unlabel` of its text: what n prints
+//! h NODES FRAMES LIMIT BYTES TREE ..
+//!                                 `label_packet` as by k, the bytes in one field, then its text's tree
+//!                                 applied to the next, and so on: what a prints
 //! ```
 
 use lazvorn::{Numbers, Parts};
@@ -237,11 +244,22 @@ fn translate_command(m: &mut Memory, nodes: &str, frames: &str, rule: &[u8]) -> 
 }
 
 fn apply_command(m: &mut Memory, room: [&str; 3], trees: &[&str]) -> Answer<String> {
-    let [free, frames, limit] = [number(room[0])?, number(room[1])?, number(room[2])?];
     let (nodes, before) = m.load_all(trees)?;
     let (first, arguments) = nodes.split_first().ok_or(Early::NoCommand)?;
+    apply_all(m, room, before, *first, arguments)
+}
+
+/// A node applied to these in order, where `before` nodes are in use: the line of a.
+fn apply_all(
+    m: &mut Memory,
+    room: [&str; 3],
+    before: usize,
+    function: usize,
+    arguments: &[usize],
+) -> Answer<String> {
+    let [free, frames, limit] = [number(room[0])?, number(room[1])?, number(room[2])?];
     let mut all = Numbers {
-        node: *first,
+        node: function,
         used: before,
         ..Numbers::default()
     };
@@ -270,12 +288,26 @@ fn unlabel_command(m: &mut Memory, tree: &str) -> Answer<String> {
     m.unlabelled(parts)
 }
 
+/// Several trees into an empty table, and Label of the first with the second, with ample room: what it
+/// made, and the nodes of the other trees.
+fn labelled(m: &mut Memory, trees: &[&str]) -> Answer<(Numbers, Vec<usize>)> {
+    let (nodes, used) = m.load_all(trees)?;
+    let [rule, label, others @ ..] = &nodes[..] else {
+        return Err(Early::NoCommand);
+    };
+    let made = lazvorn::label(&mut m.table[..TABLE], used, *rule, *label);
+    Ok((accepted(made)?, others.to_vec()))
+}
+
 fn both_ways_command(m: &mut Memory, rule: &str, label: &str) -> Answer<String> {
-    let (nodes, used) = m.load_all(&[rule, label])?;
-    let table = &mut m.table[..TABLE];
-    let made = accepted(lazvorn::label(table, used, nodes[0], nodes[1]))?;
-    let parts = lazvorn::unlabel(table, made.used, made.node);
+    let (made, _) = labelled(m, &[rule, label])?;
+    let parts = lazvorn::unlabel(&m.table[..TABLE], made.used, made.node);
     m.unlabelled(parts)
+}
+
+fn label_and_apply_command(m: &mut Memory, room: [&str; 3], trees: &[&str]) -> Answer<String> {
+    let (made, arguments) = labelled(m, trees)?;
+    apply_all(m, room, made.used, made.node, &arguments)
 }
 
 fn words_command(m: &mut Memory, letter: &str, rest: &[&str]) -> Answer<String> {
@@ -322,10 +354,36 @@ fn packet_command(m: &mut Memory, packet: &[u8]) -> String {
     line(m, ran.numbers())
 }
 
-fn label_packet_command(m: &mut Memory, packet: &[u8]) -> String {
+/// `label_packet` with the room that the program lends.
+fn label_packet(m: &mut Memory, packet: &[u8]) -> Numbers {
     let (table, stack) = (&mut m.table[..16_384], &mut m.stack[..12_288]);
-    let labelled = lazvorn::label_packet(table, stack, &mut m.out[..16_384], packet);
+    lazvorn::label_packet(table, stack, &mut m.out[..16_384], packet)
+}
+
+fn label_packet_command(m: &mut Memory, packet: &[u8]) -> String {
+    let labelled = label_packet(m, packet);
     line(m, labelled)
+}
+
+/// The text of a packet's labelled rule.
+fn labelled_text(m: &mut Memory, packet: &[u8]) -> Answer<String> {
+    let digits = accepted(label_packet(m, packet))?.digits;
+    Ok(m.shown(digits))
+}
+
+fn label_packet_and_unlabel_command(m: &mut Memory, packet: &[u8]) -> Answer<String> {
+    let text = labelled_text(m, packet)?;
+    unlabel_command(m, &text)
+}
+
+fn label_packet_and_apply_command(
+    m: &mut Memory,
+    room: [&str; 3],
+    packet: &[u8],
+    arguments: &[&str],
+) -> Answer<String> {
+    let text = labelled_text(m, packet)?;
+    apply_command(m, room, &[&[&text[..]], arguments].concat())
 }
 
 fn label_packet_in_room_command(m: &mut Memory, room: [&str; 3], packet: &[u8]) -> Answer<String> {
@@ -362,11 +420,18 @@ fn command(m: &mut Memory, fields: &[&str]) -> Answer<String> {
         ["l", nodes, rule, label] => label_command(m, nodes, rule, label),
         ["n", tree] => unlabel_command(m, tree),
         ["d", rule, label] => both_ways_command(m, rule, label),
+        ["f", nodes, frames, limit, ref trees @ ..] => {
+            label_and_apply_command(m, [nodes, frames, limit], trees)
+        }
         ["u", letter, ref rest @ ..] => words_command(m, letter, rest),
         ["p", ref bytes @ ..] => Ok(packet_command(m, &gathered(bytes)?)),
         ["k", ref bytes @ ..] => Ok(label_packet_command(m, &gathered(bytes)?)),
         ["o", nodes, frames, out, ref bytes @ ..] => {
             label_packet_in_room_command(m, [nodes, frames, out], &gathered(bytes)?)
+        }
+        ["v", ref bytes @ ..] => label_packet_and_unlabel_command(m, &gathered(bytes)?),
+        ["h", nodes, frames, limit, bytes, ref trees @ ..] => {
+            label_packet_and_apply_command(m, [nodes, frames, limit], &bytes_of(bytes)?, trees)
         }
         _ => Err(Early::NoCommand),
     }
@@ -454,7 +519,9 @@ mod tests {
             "u x 0 0 0",
             "n",
             "d 0",
+            "f 1 1 1 0",
             "o 1 1",
+            "h 1 1 1",
             "a 1 1 1",
         ] {
             assert_eq!(differences(line, "4\n"), 1, "{line}");
