@@ -253,24 +253,22 @@ fn label() {
         lent.nothing_beyond();
         (numbers, lent)
     };
-    let (numbers, lent) = call(21, 3, 2, 1);
+    let (numbers, lent) = call(23, 3, 2, 1);
     assert_eq!(
         numbers,
         Numbers {
-            node: 9,
-            used: 10,
+            node: 10,
+            used: 11,
             ..Numbers::default()
         }
     );
-    assert_eq!(
-        lent.table[..21],
-        [0, 0, 1, 0, 1, 2, 0, 0, 4, 0, 4, 5, 3, 0, 7, 6, 2, 0, 9, 8, NOISE]
-    );
-    assert_eq!(call(19, 3, 2, 1).0, refused(NODES, 3));
-    assert_eq!(call(21, 3, 3, 1).0, refused(NODE, 3));
-    assert_eq!(call(21, 3, 2, 3).0, refused(NODE, 3));
-    assert_eq!(call(21, 4, 2, 1).0, refused(BROKEN, 4));
-    assert_eq!(call(21, 11, 2, 1).0, refused(LIMITS, 11));
+    assert_eq!(lent.table[..22], LABELLED);
+    assert_eq!(lent.table[22], NOISE);
+    assert_eq!(call(21, 3, 2, 1).0, refused(NODES, 3));
+    assert_eq!(call(23, 3, 3, 1).0, refused(NODE, 3));
+    assert_eq!(call(23, 3, 2, 3).0, refused(NODE, 3));
+    assert_eq!(call(23, 4, 2, 1).0, refused(BROKEN, 4));
+    assert_eq!(call(23, 12, 2, 1).0, refused(LIMITS, 12));
 }
 
 #[test]
@@ -355,16 +353,16 @@ fn run_passes_over_a_label() {
 }
 
 /// A packet of 14 bytes, and one byte more. The rule λx. Δ, 02 00, is KΔ: 200, three nodes, and Translate
-/// wants six frames. Its label is 10, two nodes, and Label makes seven.
+/// wants six frames. Its label is 10, two nodes, and Label makes eight.
 const WITH_LABEL: &[u8; 15] = b"\x01\x00\x02\x02\x00\x02\x00\x010\x04\x00\x02100";
 
 /// The answer of `label_packet` to this packet.
 const LABELLED_RULE: Numbers = Numbers {
     refusal: 0,
     node: 0,
-    used: 12,
+    used: 13,
     steps: 0,
-    digits: 13,
+    digits: 15,
 };
 
 fn label_packet_in([words, stack, out]: [usize; 3], packet: &[u8]) -> (Numbers, Lent) {
@@ -385,19 +383,21 @@ fn refused_label_packet(room: [usize; 3], packet: &[u8], refusal: usize) -> Lent
 #[test]
 fn label_packet() {
     let packet = &WITH_LABEL[..14];
-    let (numbers, lent) = label_packet_in([25, 20, 14], packet);
+    let (numbers, lent) = label_packet_in([27, 20, 16], packet);
     assert_eq!(numbers, LABELLED_RULE);
     // The rule's fork is node 2 and the label's stem node 4. Then leaf, its stem, their fork KK, the
-    // rule's stem, its fork with KK, the label's stem, and the fork of this and that fork.
+    // rule's stem, its fork with KK, the leaf's fork with the label, its stem, and the fork of this and
+    // the fork with KK.
+    assert_eq!(lent.table[..10], [0, 0, 0, 0, 2, 1, 0, 0, 4, 0]);
     assert_eq!(
-        lent.table[..25],
-        [0, 0, 0, 0, 2, 1, 0, 0, 4, 0, 0, 0, 6, 0, 6, 7, 3, 0, 9, 8, 5, 0, 11, 10, NOISE]
+        lent.table[10..27],
+        [0, 0, 6, 0, 6, 7, 3, 0, 9, 8, 6, 5, 11, 0, 12, 10, NOISE]
     );
-    // 2 1 and the label, 2 1 and the rule, KK; the byte past the text stays.
-    assert_eq!(lent.out[..14], *b"2110212002010\xa5");
+    // 2 1, 2 0 and the label, 2 1 and the rule, KK; the byte past the text stays.
+    assert_eq!(lent.out[..16], *b"212010212002010\xa5");
     lent.nothing_beyond();
     lent.stack_is_zero();
-    assert_eq!(label_packet_in([24, 18, 13], packet).0, LABELLED_RULE);
+    assert_eq!(label_packet_in([26, 18, 15], packet).0, LABELLED_RULE);
     let most = [131_072, 65_536, 65_535];
     assert_eq!(label_packet_in(most, packet).0, LABELLED_RULE);
 }
@@ -408,19 +408,19 @@ fn label_packet_refused_by_its_stages() {
     let undone = |room, refusal, nodes| {
         refused_label_packet(room, packet, refusal).is_undone(nodes);
     };
-    // 8 by Label, by Read, by Translate; 9 by Translate; 10 by Write, which made all twelve.
-    undone([23, 20, 14], NODES, 5);
-    undone([9, 20, 14], NODES, 3);
-    undone([5, 20, 14], NODES, 0);
-    undone([0, 20, 14], NODES, 0);
-    undone([25, 17, 14], FRAMES, 0);
-    undone([25, 0, 14], FRAMES, 0);
-    undone([25, 20, 12], OUT, 12);
-    undone([25, 20, 0], OUT, 12);
+    // 8 by Label, by Read, by Translate; 9 by Translate; 10 by Write, after all thirteen were made.
+    undone([25, 20, 16], NODES, 5);
+    undone([9, 20, 16], NODES, 3);
+    undone([5, 20, 16], NODES, 0);
+    undone([0, 20, 16], NODES, 0);
+    undone([27, 17, 16], FRAMES, 0);
+    undone([27, 0, 16], FRAMES, 0);
+    undone([27, 20, 14], OUT, 13);
+    undone([27, 20, 0], OUT, 13);
     // 9 by Read: six forks, each in the first branch, leave seven trees pending.
     let deep = [&packet[..9], b"\x04\x00\x0d2222220000000"].concat();
-    refused_label_packet([46, 20, 24], &deep, FRAMES).is_undone(3);
-    assert_eq!(label_packet_in([46, 21, 24], &deep).0.used, 23);
+    refused_label_packet([48, 20, 26], &deep, FRAMES).is_undone(3);
+    assert_eq!(label_packet_in([48, 21, 26], &deep).0.used, 24);
 }
 
 #[test]
@@ -430,11 +430,11 @@ fn label_packet_refused_by_its_checks() {
         let lent = refused_label_packet(room, packet, refusal);
         assert_eq!(lent, lent.as_found());
     };
-    let room = [25, 20, 14];
-    unchanged([131_073, 20, 14], packet, LIMITS);
-    unchanged([25, 65_537, 14], packet, LIMITS);
-    unchanged([25, 20, 65_536], packet, LIMITS);
-    unchanged([131_073, 20, 14], &[], LIMITS);
+    let room = [27, 20, 16];
+    unchanged([131_073, 20, 16], packet, LIMITS);
+    unchanged([27, 65_537, 16], packet, LIMITS);
+    unchanged([27, 20, 65_536], packet, LIMITS);
+    unchanged([131_073, 20, 16], &[], LIMITS);
     // A byte more or less, no label, no byte; without memory too.
     unchanged(room, WITH_LABEL, PACKET);
     unchanged(room, &packet[..13], PACKET);
@@ -453,8 +453,10 @@ fn label_packet_refused_by_its_checks() {
     );
 }
 
-/// Node 9 is the rule at node 2 labelled with node 1, as Label makes it in the test `label`.
-const LABELLED: [u32; 20] = [0, 0, 1, 0, 1, 2, 0, 0, 4, 0, 4, 5, 3, 0, 7, 6, 2, 0, 9, 8];
+/// Node 10 is the rule at node 2 labelled with node 1: Label makes the nodes from 3 on.
+const LABELLED: [u32; 22] = [
+    0, 0, 1, 0, 1, 2, 0, 0, 4, 0, 4, 5, 3, 0, 7, 6, 4, 2, 9, 0, 10, 8,
+];
 
 fn parts(rule: usize, used: usize, label: usize) -> Parts {
     Parts {
@@ -484,32 +486,32 @@ fn unlabel() {
         assert_eq!(table, before);
         parts
     };
-    // Δ(Δt) is node 8 and t node 1; Δ(Δf)(KK) is node 7, Δf node 6 and f node 2; KK is node 5.
-    assert_eq!(call(&LABELLED, 20, 10, 9), parts(2, 10, 1));
-    assert_eq!(call(&LABELLED, 21, 10, 9), parts(2, 10, 1));
-    assert_eq!(call(&LABELLED, 131_072, 10, 9), parts(2, 10, 1));
-    for node in 0..9 {
-        let refused = refused_parts(NOT_LABELLED, 10);
-        assert_eq!(call(&LABELLED, 20, 10, node), refused, "{node}");
+    // Δ(Kt) is node 9, Kt node 8 and t node 1; Δ(Δf)(KK) is node 7, Δf node 6 and f node 2; KK is node 5.
+    assert_eq!(call(&LABELLED, 22, 11, 10), parts(2, 11, 1));
+    assert_eq!(call(&LABELLED, 23, 11, 10), parts(2, 11, 1));
+    assert_eq!(call(&LABELLED, 131_072, 11, 10), parts(2, 11, 1));
+    for node in 0..10 {
+        let refused = refused_parts(NOT_LABELLED, 11);
+        assert_eq!(call(&LABELLED, 22, 11, node), refused, "{node}");
     }
-    assert_eq!(call(&LABELLED, 131_073, 10, 9), refused_parts(LIMITS, 10));
-    assert_eq!(call(&LABELLED, 21, 11, 9), refused_parts(LIMITS, 11));
-    assert_eq!(call(&LABELLED, 19, 10, 9), refused_parts(LIMITS, 10));
+    assert_eq!(call(&LABELLED, 131_073, 11, 10), refused_parts(LIMITS, 11));
+    assert_eq!(call(&LABELLED, 23, 12, 10), refused_parts(LIMITS, 12));
+    assert_eq!(call(&LABELLED, 21, 11, 10), refused_parts(LIMITS, 11));
     let most = usize::MAX;
-    assert_eq!(call(&LABELLED, 20, most, 9), refused_parts(LIMITS, most));
+    assert_eq!(call(&LABELLED, 22, most, 10), refused_parts(LIMITS, most));
     assert_eq!(call(&[], 0, 1, 0), refused_parts(LIMITS, 1));
-    assert_eq!(call(&LABELLED, 22, 11, 9), refused_parts(BROKEN, 11));
-    assert_eq!(call(&LABELLED, 22, 11, 11), refused_parts(BROKEN, 11));
-    assert_eq!(call(&LABELLED, 20, 10, 10), refused_parts(NODE, 10));
-    assert_eq!(call(&LABELLED, 20, 9, 9), refused_parts(NODE, 9));
-    assert_eq!(call(&LABELLED, 20, 10, most), refused_parts(NODE, 10));
+    assert_eq!(call(&LABELLED, 24, 12, 10), refused_parts(BROKEN, 12));
+    assert_eq!(call(&LABELLED, 24, 12, 12), refused_parts(BROKEN, 12));
+    assert_eq!(call(&LABELLED, 22, 11, 11), refused_parts(NODE, 11));
+    assert_eq!(call(&LABELLED, 22, 10, 10), refused_parts(NODE, 10));
+    assert_eq!(call(&LABELLED, 22, 11, most), refused_parts(NODE, 11));
     assert_eq!(call(&[], 0, 0, 0), refused_parts(NODE, 0));
     // A broken node that the tree does not reach.
     let mut broken = [&LABELLED[..], &[0, 1]].concat();
-    assert_eq!(call(&broken, 22, 11, 9), refused_parts(BROKEN, 11));
-    assert_eq!(call(&broken, 22, 10, 9), parts(2, 10, 1));
-    broken[20] = 1;
-    assert_eq!(call(&broken, 22, 11, 9), parts(2, 11, 1));
+    assert_eq!(call(&broken, 24, 12, 10), refused_parts(BROKEN, 12));
+    assert_eq!(call(&broken, 24, 11, 10), parts(2, 11, 1));
+    broken[22] = 1;
+    assert_eq!(call(&broken, 24, 12, 10), parts(2, 12, 1));
 }
 
 /// `unlabel` of the last node of a table.
@@ -517,66 +519,129 @@ fn unlabel_last(words: &[u32]) -> Parts {
     lazvorn::unlabel(words, words.len() / 2, words.len() / 2 - 1)
 }
 
+/// Other words for a node of the form: of another kind, or with another branch.
+const OTHER_WORDS: [(usize, [u32; 2]); 28] = [
+    (10, [10, 0]),
+    (10, [9, 8]),
+    (10, [10, 10]),
+    (10, [10, 7]),
+    (9, [0, 0]),
+    (9, [9, 9]),
+    // Δt for Δ(Kt).
+    (9, [2, 0]),
+    (8, [0, 0]),
+    (8, [4, 0]),
+    // K and KK for the leaf of Kt.
+    (8, [5, 2]),
+    (8, [6, 2]),
+    (7, [0, 0]),
+    (7, [7, 0]),
+    (7, [6, 6]),
+    (7, [7, 5]),
+    (6, [0, 0]),
+    (6, [3, 3]),
+    // Kf for Δf.
+    (6, [4, 3]),
+    (5, [0, 0]),
+    (5, [5, 0]),
+    (5, [4, 4]),
+    (5, [5, 4]),
+    (5, [5, 5]),
+    (4, [0, 0]),
+    (4, [4, 4]),
+    (4, [2, 0]),
+    (3, [1, 0]),
+    (3, [1, 1]),
+];
+
 #[test]
 fn unlabel_by_the_form() {
-    // One node of the form is another: its kind, or the node that a branch is.
-    for (node, words) in [
-        (9, [9, 0]),
-        (9, [8, 8]),
-        (9, [9, 9]),
-        (9, [9, 7]),
-        (8, [0, 0]),
-        (8, [2, 2]),
-        (7, [0, 0]),
-        (7, [7, 0]),
-        (7, [6, 6]),
-        (7, [7, 5]),
-        (6, [0, 0]),
-        (6, [3, 3]),
-        (5, [0, 0]),
-        (5, [5, 0]),
-        (5, [4, 4]),
-        (5, [5, 4]),
-        (5, [5, 5]),
-        (4, [0, 0]),
-        (4, [4, 4]),
-        (4, [2, 0]),
-        (3, [1, 0]),
-        (3, [1, 1]),
-    ] {
+    for (node, words) in OTHER_WORDS {
         let mut table = LABELLED;
         table[2 * node..2 * node + 2].copy_from_slice(&words);
-        let refused = refused_parts(NOT_LABELLED, 10);
+        let refused = refused_parts(NOT_LABELLED, 11);
         assert_eq!(unlabel_last(&table), refused, "{node} {words:?}");
     }
 }
 
+/// A tree labelled earlier, without K before the label. It is of the form where the label is itself Kx:
+/// then x is the label.
+#[test]
+fn unlabel_of_trees_labelled_earlier() {
+    let of_rule = [0, 0, 1, 0, 1, 2, 0, 0, 4, 0, 4, 5, 3, 0, 7, 6];
+    let earlier = |label| [&of_rule[..], &[label, 0, 9, 8]].concat();
+    // A leaf and a stem; KK, node 2, is K of node 1, and node 5 of node 4.
+    for label in [1, 2] {
+        let refused = refused_parts(NOT_LABELLED, 10);
+        assert_eq!(unlabel_last(&earlier(label)), refused, "{label}");
+    }
+    assert_eq!(unlabel_last(&earlier(3)), parts(2, 10, 1));
+    assert_eq!(unlabel_last(&earlier(6)), parts(2, 10, 4));
+}
+
 #[test]
 fn unlabel_where_nodes_are_shared() {
-    // K is the leaf's stem in KK and Δf and Δt; then f and t are KK itself.
-    let stem_shared = [0, 0, 1, 0, 1, 2, 2, 3, 2, 4];
-    assert_eq!(unlabel_last(&stem_shared), parts(0, 5, 0));
-    let of_kk = [0, 0, 1, 0, 1, 2, 3, 0, 4, 3, 4, 5];
-    assert_eq!(unlabel_last(&of_kk), parts(2, 6, 2));
-    // KK of two leaves, whose nodes are f and t too, made before Δf; then Δt made first.
-    let two_leaves = [0, 0, 0, 0, 2, 0, 1, 3, 1, 0, 5, 4, 2, 0, 7, 6];
-    assert_eq!(unlabel_last(&two_leaves), parts(0, 8, 1));
-    let label_first = [0, 0, 1, 0, 0, 0, 3, 0, 1, 4, 3, 0, 6, 5, 2, 7];
-    assert_eq!(unlabel_last(&label_first), parts(2, 8, 0));
+    // K is Δf and t too, and KK is Kt; then f and t are KK itself; then KK's stem is both Δf and Δ(Kt).
+    let stem_shared = [0, 0, 1, 0, 1, 2, 2, 3, 3, 0, 5, 4];
+    assert_eq!(unlabel_last(&stem_shared), parts(0, 6, 1));
+    let of_kk = [0, 0, 1, 0, 1, 2, 3, 0, 4, 3, 1, 3, 6, 0, 7, 5];
+    assert_eq!(unlabel_last(&of_kk), parts(2, 8, 2));
+    let both_stems = [0, 0, 1, 0, 1, 2, 3, 0, 4, 3, 4, 5];
+    assert_eq!(unlabel_last(&both_stems), parts(2, 6, 1));
+    // KK of two leaves, whose nodes are f and t too, made before Δf; then Δ(Kt) made first.
+    let two_leaves = [0, 0, 0, 0, 2, 0, 1, 3, 1, 0, 5, 4, 2, 2, 7, 0, 8, 6];
+    assert_eq!(unlabel_last(&two_leaves), parts(0, 9, 1));
+    let label_first = [0, 0, 1, 1, 2, 0, 0, 0, 4, 0, 1, 5, 4, 0, 7, 6, 3, 8];
+    assert_eq!(unlabel_last(&label_first), parts(3, 9, 0));
 }
 
 /// What Label makes, and what Read makes of the text of a labelled tree, is taken apart again.
 #[test]
 fn unlabel_after_label_and_after_read() {
-    let mut table = table(20);
+    let mut table = table(22);
     let labelled = lazvorn::label(&mut table, 3, 0, 2);
     let unlabelled = lazvorn::unlabel(&table, labelled.used, labelled.node);
-    assert_eq!(unlabelled, parts(0, 10, 2));
-    // Read lays digit p of 13 at node 12 - p: the rule begins at 6 and the label at 2.
-    let (mut table, mut stack) = ([NOISE; 26], [NOISE; 9]);
-    let read = lazvorn::read(&mut table, 0, &mut stack, b"2110212002010");
-    assert_eq!((read.refusal, read.node), (0, 12));
-    assert_eq!(lazvorn::unlabel(&table, 13, 12), parts(6, 13, 10));
+    assert_eq!(unlabelled, parts(0, 11, 2));
+    // Read lays digit p of 15 at node 14 - p: the rule begins at 8 and the label at 4.
+    let (mut table, mut stack) = ([NOISE; 30], [NOISE; 9]);
+    let read = lazvorn::read(&mut table, 0, &mut stack, b"212010212002010");
+    assert_eq!((read.refusal, read.node), (0, 14));
+    assert_eq!(lazvorn::unlabel(&table, 15, 14), parts(6, 15, 10));
+}
+
+/// λx. x x never ends on itself. As the label of KΔ it costs six steps, a node and two frames, and KΔ
+/// drops the argument in one step.
+#[test]
+fn apply_of_a_labelled_rule() {
+    let (mut table, mut stack) = ([NOISE; 48], [NOISE; 9]);
+    let rule = lazvorn::read(&mut table, 0, &mut stack, b"200");
+    let tree = lazvorn::read(&mut table, 3, &mut stack, b"212101021010");
+    let labelled = lazvorn::label(&mut table, 15, rule.node, tree.node);
+    assert_eq!(
+        (labelled.refusal, labelled.node, labelled.used),
+        (0, 22, 23)
+    );
+    let call = |words, stack, limit| {
+        let (mut table, mut stack) = (table, vec![NOISE; stack]);
+        lazvorn::apply(&mut table[..words], 23, &mut stack, 22, tree.node, limit)
+    };
+    // The outcome is KΔ's second branch, node 0.
+    let numbers = Counted {
+        used: 24,
+        steps: 7,
+        uses: Uses {
+            stem: 1,
+            drop: 4,
+            spread: 2,
+            ..Uses::default()
+        },
+        ..Counted::default()
+    };
+    assert_eq!(call(48, 6, 7), numbers);
+    assert_eq!(call(48, 6, 1_000_000), numbers);
+    assert_eq!(call(48, 6, 6), refused_uses(STEPS, 23));
+    assert_eq!(call(47, 6, 7), refused_uses(NODES, 23));
+    assert_eq!(call(48, 5, 7), refused_uses(FRAMES, 23));
 }
 
 /// Five counts that all differ, summed over the arguments. I is λx. x, 21010.
