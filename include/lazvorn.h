@@ -122,7 +122,10 @@ void lazvorn_apply(
     size_t limit,       /* the step limit, at most 1,000,000 */
     size_t answer[10]); /* the ten numbers */
 
-/* Labels a rule with a tree: seven new nodes. Gives node and used. Refusals 1, 2, 3, 8. */
+/*
+ * Labels a rule with a tree: eight new nodes. Gives node and used. Refusals 1, 2, 3, 8. On any
+ * argument the labelled tree gives the rule's tree in six more steps; the label is not run.
+ */
 void lazvorn_label(
     uint32_t *table,   /* the table's words */
     size_t table_len,  /* how many words */
@@ -133,7 +136,9 @@ void lazvorn_label(
 
 /*
  * Takes a labelled tree apart, wherever its nodes lie. Gives the rule's node (LAZVORN_NODE), used
- * as at entry, and the label's node (LAZVORN_LABEL). Refusals 1, 2, 3, 11.
+ * as at entry, and the label's node (LAZVORN_LABEL). Refusals 1, 2, 3, 11. A tree that was labelled
+ * without K before the label is 11 (unless that label is Kx for some x, which is then the label);
+ * lazvorn_label_packet makes it again from its packet.
  */
 void lazvorn_unlabel(
     const uint32_t *table, /* the table's words; they are read only */
@@ -165,7 +170,7 @@ void lazvorn_run(
  * arguments and step limit are passed over. Gives used and digits. Refusals 1, 4, 5, 6, 8, 9, 10.
  */
 void lazvorn_label_packet(
-    uint32_t *table,       /* the table's words: the rule's nodes, the label's, and seven more */
+    uint32_t *table,       /* the table's words: the rule's nodes, the label's, and eight more */
     size_t table_len,      /* how many words */
     uint32_t *stack,       /* the stack's words */
     size_t stack_len,      /* how many words */

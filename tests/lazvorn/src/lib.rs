@@ -324,14 +324,17 @@ pub fn apply(
     })
 }
 
-/// Labels the rule at node `rule` with the tree of node `label`.
+/// Labels the rule at node `rule` with the tree of node `label`: eight new nodes. On any argument the
+/// labelled tree gives the rule's tree in six more steps; the label is not run.
 pub fn label(table: &mut [u32], used: usize, rule: usize, label: usize) -> Numbers {
     numbers(|answer| unsafe {
         raw::lazvorn_label(table.as_mut_ptr(), table.len(), used, rule, label, answer)
     })
 }
 
-/// Takes the labelled tree of `node` apart: the nodes of its rule and of its label.
+/// Takes the labelled tree of `node` apart: the nodes of its rule and of its label. A tree that was
+/// labelled without K before the label is refused (unless that label is Kx for some x, which is then the
+/// label); `label_packet` makes it again from its packet.
 pub fn unlabel(table: &[u32], used: usize, node: usize) -> Parts {
     let mut answer = [usize::MAX; 6];
     unsafe { raw::lazvorn_unlabel(table.as_ptr(), table.len(), used, node, &mut answer) };
