@@ -50,9 +50,9 @@ impl Labelled {
         }
     }
 
-    /// The nodes of the form, where it is of that form.
+    /// The nodes of the form. Where a wrong engine made the tree, they are some nodes.
     fn form(&self) -> [usize; FORM] {
-        let branch = |node: usize, i: usize| self.table[2 * node + i] as usize - 1;
+        let branch = |node: usize, i: usize| (self.table[2 * node + i] as usize).saturating_sub(1);
         let root = self.node;
         let (label_stem, second) = (branch(root, 0), branch(root, 1));
         let kt = branch(label_stem, 0);
