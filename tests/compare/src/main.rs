@@ -214,14 +214,14 @@ fn compare_calls(random: &mut Random, noise: &Noise) -> usize {
 fn compare_labelled_rules(random: &mut Random, noise: &Noise) -> usize {
     let outcome = labelled_rules::compare(random, noise, LABELLED_RULES);
     print("labelled", &outcome.counts, [7]);
-    print("filed", &outcome.filed, [7, 10]);
+    print("filed", &outcome.filed, [7]);
     let met = vec![
         ("labels without a tree".to_string(), outcome.endless_labels),
         ("rules without a tree".to_string(), outcome.endless_rules),
     ];
     let counts = [outcome.counts, outcome.filed];
     let seldom: usize = counts.iter().map(|counts| seldom(counts, [0, 7])).sum();
-    outcome.differences + seldom + print_met("labelled", &met)
+    outcome.differences + seldom + print_met("met", &met)
 }
 
 /// Compares texts and their beginnings; how many differ.
