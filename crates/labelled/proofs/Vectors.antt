@@ -1,6 +1,6 @@
 -- A worked example of Label, every word of the outcome: it pins the order of the new nodes, which no law of trees sees. Assumes nothing.
 use mathlib.Core.Path.{_≡_, refl}
-use mathlib.Core.List.{List, [], _∷_, _++_}
+use mathlib.Core.List.{[], _∷_}
 use lib.ListN.{replicate}
 use Rattle.table.specs.Nodes as table
 use Rattle.table.specs.Outcome as outcome

@@ -1,6 +1,6 @@
 -- The labelled tree, and the whole outcome of Label (Operations, Label). Assumes nothing: these are definitions.
 use Prim.Native.Nat.{ℕ, _+_, _-_}
-use mathlib.Core.Bool.{Bool, true, false, cond, _&&_}
+use mathlib.Core.Bool.{true, cond, _&&_}
 use mathlib.Core.List.{List, []}
 use lib.Dec.{ltb}
 use Rattle.calculus.specs.Tree.{Tree, leaf, stem, fork}

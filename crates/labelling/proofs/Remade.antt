@@ -5,7 +5,6 @@ use mathlib.Core.Bool.{true}
 use mathlib.Core.List.{List, []}
 use native.Mathlib.Omega.{arith}
 use lib.ListN.{take}
-use Rattle.calculus.specs.Tree.{Tree}
 use Rattle.calculus.specs.Abstraction.{ruleTree}
 use Rattle.table.specs.Nodes.{treeAt}
 use Rattle.table.specs.Outcome.{Entered}

@@ -2,7 +2,6 @@
 use Prim.Native.Nat.{ℕ}
 use mathlib.Core.Path.{ap, _∙_}
 use mathlib.Core.List.{List}
-use Rattle.table.specs.Nodes.{treeAt}
 use Rattle.labelled.specs.Unlabel.{right}
 use Rattle.labelled.specs.Branches.{IsStem, IsFork}
 use Rattle.unlabel.specs.Code.{not-of-form}
