@@ -7,8 +7,7 @@ use mathlib.Core.Option.{Option, none, some}
 use native.Mathlib.Omega.{arith}
 use lib.Dec.{ltb}
 use borrow.Author.Tests.{lt-ltb, ltb-true, ltb-false}
-use Rattle.calculus.specs.Tree.{Tree}
-use Rattle.table.specs.Nodes.{Table, Placed, capacity, Sound, treeAt}
+use Rattle.table.specs.Nodes.{Table, capacity, Sound, treeAt, make}
 use Rattle.table.specs.Outcome.{Outcome, Entered, whole, placed, atEntry, unless}
 use Rattle.table.specs.declared.Refusal.{Refusal}
 use Rattle.table.specs.declared.Refusal.the-variants.{Nodes}
@@ -18,23 +17,24 @@ use Rattle.table.specs.declared.Made.the-variants.{Node, Refused}
 use Rattle.table.specs.Claims.{Extends, Has, Places}
 use Rattle.table.proofs.Words.{and-left, and-right}
 use Rattle.table.proofs.Trees.{extends-refl, extends-trans}
-use Rattle.table.proofs.Making.{has, stays, stem-of, fork-of, make-used, make-leaf}
+use Rattle.table.proofs.Making.{has, stays, stem-of, fork-of, make-used, made-extends, make-leaf}
 use Rattle.table.proofs.Entry.{entered, enters}
 use Rattle.table.proofs.Laid.{refused-made}
 use Rattle.labelled.specs.Label.{labelled, nodes, labelRule, label}
 use Rattle.labelled.specs.Claims.{Labels}
 
 -- z is t with k nodes more
-record Grown (t : Table) (k : ℕ) (z : Table) : Type 0 where
-  fine : Sound z
-  extends : Extends t z
-  used-is : z .used ≡ t .used + k
+pub record Grown (t : Table) (k : ℕ) (z : Table) : Type 0 where
+  pub extends : Extends t z
+  pub used-is : z .used ≡ t .used + k
 
--- one node more, whose tree is x
-next : {t z : Table} {k : ℕ} {m : Placed} {x : Tree} → Grown t k z → Places z m x → m .table .used ≡ z .used + 1 → Grown t (k + 1) (m .table)
-next g p e = record { fine = p .fine; extends = extends-trans (g .extends) (p .extends); used-is = omega (arith, g .used-is) }
+pub none-yet : (t : Table) → Grown t 0 t
+none-yet t = record { extends = extends-refl t; used-is = omega arith }
 
-room : {t z : Table} {k : ℕ} → Grown t k z → k < 8 → t .used + 8 ≤ capacity (t .words) → z .used < capacity (z .words)
+pub one-more : {t z : Table} {k : ℕ} (a b : ℕ) → Grown t k z → Grown t (k + 1) (make z a b .table)
+one-more {z = z} a b g = record { extends = extends-trans (g .extends) (made-extends z a b); used-is = omega (arith, make-used z a b, g .used-is) }
+
+pub room : {t z : Table} {k : ℕ} → Grown t k z → k < 8 → t .used + 8 ≤ capacity (t .words) → z .used < capacity (z .words)
 room g h r = omega (arith, g .used-is, g .extends .kept .same-length)
 
 -- the eight nodes have the labelled tree
@@ -42,27 +42,26 @@ pub nodes-place : {t : Table} → Sound t → (f l : ℕ) → f < t .used → l 
     → Places t (nodes t f l) (labelled (treeAt (t .words) f) (treeAt (t .words) l)) × (nodes t f l .table .used ≡ t .used + 8)
 unfolding nodes
 nodes-place {t} s f l hf hl r =
-    let g0 : Grown t 0 t = record { fine = s; extends = extends-refl t; used-is = omega arith } in
-    let p1 = make-leaf s (room g0 (omega arith) r) in
-    let g1 = next g0 p1 (make-used _ _ _) in
-    let p2 = stem-of (g1 .fine) (room g1 (omega arith) r) (has p1) in
-    let g2 = next g1 p2 (make-used _ _ _) in
-    let leaf-in = stays (g1 .fine) (p2 .extends .kept) (has p1) in
-    let p3 = fork-of (g2 .fine) (room g2 (omega arith) r) leaf-in (has p2) in
-    let g3 = next g2 p3 (make-used _ _ _) in
-    let p4 = stem-of (g3 .fine) (room g3 (omega arith) r) (stays s (g3 .extends .kept) (known f hf)) in
-    let g4 = next g3 p4 (make-used _ _ _) in
-    let p5 = fork-of (g4 .fine) (room g4 (omega arith) r) (has p4) (stays (g3 .fine) (p4 .extends .kept) (has p3)) in
-    let g5 = next g4 p5 (make-used _ _ _) in
-    let leaf-stays = stays (g4 .fine) (p5 .extends .kept) (stays (g3 .fine) (p4 .extends .kept) (stays (g2 .fine) (p3 .extends .kept) leaf-in)) in
-    let p6 = fork-of (g5 .fine) (room g5 (omega arith) r) leaf-stays (stays s (g5 .extends .kept) (known l hl)) in
-    let g6 = next g5 p6 (make-used _ _ _) in
-    let p7 = stem-of (g6 .fine) (room g6 (omega arith) r) (has p6) in
-    let g7 = next g6 p7 (make-used _ _ _) in
-    let fifth = stays (g6 .fine) (p7 .extends .kept) (stays (g5 .fine) (p6 .extends .kept) (has p5)) in
-    let p8 = fork-of (g7 .fine) (room g7 (omega arith) r) (has p7) fifth in
-    let g8 = next g7 p8 (make-used _ _ _) in
-    (record { fine = g8 .fine; extends = g8 .extends; inside = p8 .inside; tree = p8 .tree }, omega (arith, g8 .used-is))
+    let p1 = make-leaf s (room (none-yet t) (omega arith) r) in
+    let g1 = one-more 0 0 (none-yet t) in
+    let p2 = stem-of (p1 .fine) (room g1 (omega arith) r) (has p1) in
+    let g2 = one-more _ 0 g1 in
+    let leaf-in = stays (p1 .fine) (p2 .extends .kept) (has p1) in
+    let p3 = fork-of (p2 .fine) (room g2 (omega arith) r) leaf-in (has p2) in
+    let g3 = one-more _ _ g2 in
+    let p4 = stem-of (p3 .fine) (room g3 (omega arith) r) (stays s (g3 .extends .kept) (known f hf)) in
+    let g4 = one-more (f + 1) 0 g3 in
+    let p5 = fork-of (p4 .fine) (room g4 (omega arith) r) (has p4) (stays (p3 .fine) (p4 .extends .kept) (has p3)) in
+    let g5 = one-more _ _ g4 in
+    let leaf-stays = stays (p4 .fine) (p5 .extends .kept) (stays (p3 .fine) (p4 .extends .kept) (stays (p2 .fine) (p3 .extends .kept) leaf-in)) in
+    let p6 = fork-of (p5 .fine) (room g5 (omega arith) r) leaf-stays (stays s (g5 .extends .kept) (known l hl)) in
+    let g6 = one-more _ (l + 1) g5 in
+    let p7 = stem-of (p6 .fine) (room g6 (omega arith) r) (has p6) in
+    let g7 = one-more _ 0 g6 in
+    let fifth = stays (p6 .fine) (p7 .extends .kept) (stays (p5 .fine) (p6 .extends .kept) (has p5)) in
+    let p8 = fork-of (p7 .fine) (room g7 (omega arith) r) (has p7) fifth in
+    let g8 = one-more _ _ g7 in
+    (record { fine = p8 .fine; extends = g8 .extends; inside = p8 .inside; tree = p8 .tree }, omega (arith, g8 .used-is))
   where
     known : (i : ℕ) → i < t .used → Has t i (treeAt (t .words) i)
     known i h = record { inside = h; tree = refl }

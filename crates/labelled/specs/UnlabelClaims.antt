@@ -1,4 +1,5 @@
--- What is claimed of `unlabel`: where it gives nodes, what these are, and what it lacked where it is refused. Assumes nothing: these are definitions.
+-- What is claimed of `unlabel`: where it gives nodes, what these are, and what it lacked where it is refused; and the form of trees that were labelled
+-- earlier. Assumes nothing: these are definitions.
 use Prim.Native.Nat.{ℕ, _≤_, _<_}
 use mathlib.Core.Path.{_≡_}
 use mathlib.Core.Bool.{true}

@@ -20,6 +20,19 @@ pub make-used : (t : Table) (a b : ℕ) → make t a b .table .used ≡ t .used 
 unfolding make
 make-used t a b = refl
 
+-- a node that is made changes no word but its own
+pub made-extends : (t : Table) (a b : ℕ) → Extends t (make t a b .table)
+unfolding make
+made-extends t a b =
+    record {
+      kept = record {
+        up = omega arith;
+        same-length = length-wrote (t .words) (t .used) a b;
+        below = λ i h. wrote-other (t .words) (t .used) a b i (λ q. omega arith) (λ q. omega arith);
+      };
+      beyond = λ i h. wrote-other (t .words) (t .used) a b i (λ q. omega arith) (λ q. omega arith);
+    }
+
 module _ {t : Table} (s : Sound t) (free : t .used < capacity (t .words)) where
   made-sound : (a b : ℕ) → Unbroken (t .used) a b → Sound (make t a b .table)
   unfolding make
@@ -31,18 +44,6 @@ module _ {t : Table} (s : Sound t) (free : t .used < capacity (t .words)) where
         unbroken = sound-wrote (t .words) (t .used) a b (omega arith) o (s .unbroken);
       }
 
-  made-extends : (a b : ℕ) → Extends t (make t a b .table)
-  unfolding make
-  made-extends a b =
-      record {
-        kept = record {
-          up = omega arith;
-          same-length = length-wrote (t .words) (t .used) a b;
-          below = λ i h. wrote-other (t .words) (t .used) a b i (λ q. omega arith) (λ q. omega arith);
-        };
-        beyond = λ i h. wrote-other (t .words) (t .used) a b i (λ q. omega arith) (λ q. omega arith);
-      }
-
   -- a leaf, a stem and a fork of nodes in use
   pub make-leaf : Places t (make t 0 0) leaf
   unfolding make
@@ -50,7 +51,7 @@ module _ {t : Table} (s : Sound t) (free : t .used < capacity (t .words)) where
       let f = made-sound 0 0 (record { first-in = omega arith; second-in = omega arith; no-gap = λ e. e }) in
       record {
         fine = f;
-        extends = made-extends 0 0;
+        extends = made-extends t 0 0;
         inside = omega arith;
         tree = tree-leaf (wrote (t .words) (t .used) 0 0) (t .used + 1) (t .used) (f .unbroken) (omega arith)
             (wrote-first (t .words) (t .used) 0 0 (omega (arith, s .within)));
@@ -60,7 +61,7 @@ module _ {t : Table} (s : Sound t) (free : t .used < capacity (t .words)) where
   unfolding make
   make-stem p h =
       let f = made-sound (p + 1) 0 (record { first-in = omega arith; second-in = omega arith; no-gap = λ e. refl }) in
-      let k = made-extends (p + 1) 0 in
+      let k = made-extends t (p + 1) 0 in
       record {
         fine = f;
         extends = k;
@@ -75,7 +76,7 @@ module _ {t : Table} (s : Sound t) (free : t .used < capacity (t .words)) where
   unfolding make
   make-fork p q h l =
       let f = made-sound (p + 1) (q + 1) (record { first-in = omega arith; second-in = omega arith; no-gap = λ e. absurd (omega arith) }) in
-      let k = made-extends (p + 1) (q + 1) in
+      let k = made-extends t (p + 1) (q + 1) in
       record {
         fine = f;
         extends = k;
