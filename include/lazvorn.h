@@ -6,15 +6,28 @@
  * follows a pointer counts elements: words for the table and the stack, bytes elsewhere. Where a
  * length is 0 the pointer may be any that is not NULL.
  *
+ * Each tree is in the table once: a node that is wanted and is there already is taken, and no two
+ * used nodes are equal. So two node numbers are equal exactly when their trees are (lazvorn_same),
+ * and used is the count of different trees. To find equal nodes a call keeps an index in its own
+ * stack frame, which the caller does not lend. Its size goes by the table's length:
+ *   nodes of the table (words / 2)    bytes of the thread's stack that a call needs
+ *   up to 1,024                       20 KiB
+ *   up to 8,192                       120 KiB
+ *   up to 65,536                      800 KiB
+ * lazvorn_translate, lazvorn_run and lazvorn_label_packet go into a rule as deep as it nests, and need
+ * up to 1 MiB more for the deepest, some 512 bytes for each application within another. Only
+ * lazvorn_rule_text, which has no table, needs none of this.
+ *
  * What a caller owes is what C itself asks: a pointer reaches as many elements as its length says,
- * and what the call writes (the table but for lazvorn_write and lazvorn_unlabel, the stack, out,
- * answer) overlaps nothing else that is lent to it. There is no other condition: counts, node
- * numbers and contents that do not fit are refused by number.
+ * and what the call writes (the table but for lazvorn_write, lazvorn_unlabel and lazvorn_same, the
+ * stack, out, answer) overlaps nothing else that is lent to it. There is no other condition:
+ * counts, node numbers and contents that do not fit are refused by number.
  *
  * Each call writes its numbers to answer, and the caller lends room for as many:
  *   lazvorn_apply and lazvorn_run write ten: refusal, node, used, steps, digits, and the uses of
  *     leaf, stem, drop, spread and triage, whose sum is the steps;
  *   lazvorn_unlabel writes six: the first five of these, and the label's node;
+ *   lazvorn_same writes two: refusal, and 1 if the trees are equal, else 0;
  *   lazvorn_rule_text writes two: refusal, and bytes written;
  *   every other call writes the first five of the ten.
  * A refusal gives its number, used as at entry (0 for lazvorn_run and lazvorn_label_packet), and 0
@@ -45,7 +58,7 @@ enum {
     LAZVORN_STEPS = 3,   /* the uses of the five rules */
     LAZVORN_DIGITS = 4,  /* the digits written to out */
     LAZVORN_LEAF = 5,    /* the uses of leaf; from here on of lazvorn_apply and lazvorn_run alone */
-    LAZVORN_STEM = 6,    /* the uses of stem; with those of leaf, the nodes that applying made */
+    LAZVORN_STEM = 6,    /* the uses of stem; with those of leaf, at least the nodes made */
     LAZVORN_DROP = 7,    /* the uses of drop */
     LAZVORN_SPREAD = 8,  /* the uses of spread */
     LAZVORN_TRIAGE = 9   /* the uses of triage */
@@ -60,23 +73,26 @@ enum { LAZVORN_LABEL = 5 };
 /* How many numbers lazvorn_unlabel writes. */
 enum { LAZVORN_PARTS = 6 };
 
+/* In lazvorn_same's answer, 1 if the trees are equal. */
+enum { LAZVORN_EQUAL = 1 };
+
 /* Refusals. */
 enum {
     LAZVORN_LIMITS = 1, /* table, stack or out too long, used above the capacity, limit too large */
-    LAZVORN_BROKEN = 2, /* a used node is broken */
+    LAZVORN_BROKEN = 2, /* a used node is broken, or two used nodes are equal */
     LAZVORN_BAD_NODE = 3, /* a node number is not below used */
     LAZVORN_TEXT = 4,   /* a text is not one whole tree, or too long */
     LAZVORN_RULE = 5,   /* bytes are not a rule */
     LAZVORN_PACKET = 6, /* a packet is broken */
     LAZVORN_NO_STEPS = 7,  /* the step limit is reached */
-    LAZVORN_NO_NODES = 8,  /* a new node has no place */
+    LAZVORN_NO_NODES = 8,  /* a node that is not in the table is wanted, and the table is full */
     LAZVORN_NO_FRAMES = 9, /* every frame is held */
     LAZVORN_NO_OUT = 10,   /* the out bytes are full, or too few */
     LAZVORN_NOT_LABELLED = 11, /* a tree is not of the labelled form */
     LAZVORN_RULE_TEXT = 12     /* a rule text has no reading, or is too long or too deep */
 };
 
-/* Reads a text into the table. Gives node and used. Refusals 1, 2, 4, 8, 9. */
+/* Reads a text into the table. Gives node and used. Refusals 1, 2, 4, 9, 8, in this order. */
 void lazvorn_read(
     uint32_t *table,     /* the table's words, at most 131,072 of them */
     size_t table_len,    /* how many words */
@@ -99,12 +115,12 @@ void lazvorn_write(
     size_t out_len,        /* how many bytes */
     size_t answer[5]);     /* the five numbers */
 
-/* Translates a rule into the table. Gives node and used. Refusals 1, 2, 5, 8, 9. */
+/* Translates a rule into the table. Gives node and used. Refusals 1, 2, 5, 9, 8, in this order. */
 void lazvorn_translate(
     uint32_t *table,      /* the table's words */
     size_t table_len,     /* how many words */
     size_t used,          /* nodes in use */
-    uint32_t *stack,      /* the stack's words: two frames for each node of the rule's tree */
+    uint32_t *stack,      /* the stack's words: two frames for each digit of the rule's tree */
     size_t stack_len,     /* how many words */
     const uint8_t *bytes, /* the rule's bytes, at most 4,096 of them */
     size_t bytes_len,     /* how many bytes */
@@ -123,8 +139,8 @@ void lazvorn_apply(
     size_t answer[10]); /* the ten numbers */
 
 /*
- * Labels a rule with a tree: eight new nodes. Gives node and used. Refusals 1, 2, 3, 8. On any
- * argument the labelled tree gives the rule's tree in six more steps; the label is not run.
+ * Labels a rule with a tree: at most eight new nodes. Gives node and used. Refusals 1, 2, 3, 8. On
+ * any argument the labelled tree gives the rule's tree in six more steps; the label is not run.
  */
 void lazvorn_label(
     uint32_t *table,   /* the table's words */
@@ -146,6 +162,18 @@ void lazvorn_unlabel(
     size_t used,           /* nodes in use */
     size_t node,           /* the labelled tree's node */
     size_t answer[6]);     /* the six numbers */
+
+/*
+ * Tells whether two nodes have the same tree, however large it is. Gives the refusal, and 1 if the
+ * trees are equal, else 0 (LAZVORN_EQUAL). Refusals 1, 2, 3 for either node.
+ */
+void lazvorn_same(
+    const uint32_t *table, /* the table's words; they are read only */
+    size_t table_len,      /* how many words */
+    size_t used,           /* nodes in use */
+    size_t a,              /* a node */
+    size_t b,              /* a node */
+    size_t answer[2]);     /* refusal, and 1 if the trees are equal */
 
 /*
  * Runs a packet with the table taken as empty. Gives used, steps, digits and uses. Refusals 1, 4
@@ -170,7 +198,7 @@ void lazvorn_run(
  * arguments and step limit are passed over. Gives used and digits. Refusals 1, 4, 5, 6, 8, 9, 10.
  */
 void lazvorn_label_packet(
-    uint32_t *table,       /* the table's words: the rule's nodes, the label's, and eight more */
+    uint32_t *table,       /* the table's words: the nodes of rule and label, at most eight more */
     size_t table_len,      /* how many words */
     uint32_t *stack,       /* the stack's words */
     size_t stack_len,      /* how many words */

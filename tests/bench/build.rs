@@ -28,9 +28,9 @@ fn main() {
     link(linker.expect("gcc or clang"), &engine, &out);
 }
 
-/// The loop without the paper's checks, with three counters, and with the checks, where the compiler
-/// is there. Each compiler gets the form that is faster by it: leaf and stem in one branch, or in two.
-fn compile(compiler: &str, out: &Path) -> Option<[PathBuf; 3]> {
+/// The loop without the paper's checks, and with them, where the compiler is there. Each compiler gets the
+/// form that is faster by it: leaf and stem in one branch, or in two.
+fn compile(compiler: &str, out: &Path) -> Option<[PathBuf; 2]> {
     let split: &[&str] = if compiler == "clang" {
         &["-DSPLIT"]
     } else {
@@ -53,7 +53,6 @@ fn compile(compiler: &str, out: &Path) -> Option<[PathBuf; 3]> {
     };
     Some([
         object(&[], format!("apply_{compiler}"))?,
-        object(&["-DDERIVED"], format!("apply_{compiler}_derived"))?,
         object(&["-DCHECKED"], format!("apply_{compiler}_checked"))?,
     ])
 }

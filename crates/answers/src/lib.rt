@@ -2,6 +2,7 @@
 // Apply and Run, with their uses, are in the crate `counted`. specs/ says in which order they stand.
 ghost use mathlib.Core.Path.{_≡_};
 ghost use Rattle.table.specs.Refusal.{refusedNumbers, madeNumbers};
+ghost use Rattle.table.specs.Same.{sameNumbers};
 ghost use Rattle.ternary.specs.Write as writing;
 ghost use Rattle.labelled.specs.Unlabel as unlabelling;
 ghost use Rattle.running.specs.Run as running;
@@ -10,6 +11,7 @@ ghost use Rattle.answers.specs.Listed.{listed};
 use grammar::Encoded;
 use labelled::Unlabelled;
 use running::Ran;
+use table::Compared;
 use table::Made;
 use table::Refusal;
 use ternary::Written;
@@ -74,5 +76,16 @@ pub fn encoded(answer: Encoded) -> [usize; 2]
     match answer {
         Encoded::Bytes(n) => [0, n],
         Encoded::Refused(refusal) => [refusals::number(refusal), 0],
+    }
+}
+
+// The numbers of the answer of `same`.
+pub fn compared(answer: Compared) -> [usize; 2]
+    ensures { λ r. ⌜ r ≡ sameNumbers answer ⌝ }
+{
+    match answer {
+        Compared::Equal => [0, 1],
+        Compared::Different => [0, 0],
+        Compared::Refused(refusal) => [refusals::number(refusal), 0],
     }
 }

@@ -43,7 +43,7 @@ uses-end (suc m) {all} {s} g o k x h =
     let l = turn-later g in
     let i = leads-after g (l .fine) (kept-refl _) o k (leads-same g (l .extends .kept) o k x) in
     go (turn all s) l (turn-took all s) (i .0) (i .1) (i .2)
-    (λ (z : State) (y : Good all z) (d : Leads (z .table .words) z o (i .0)). uses-end m y o (i .0) d (omega (arith, ap steps (i .2), one-step (wanted s) .0)))
+    (λ (z : State) (y : Good all z) (d : Leads (z .table .words) z o (i .0)). uses-end m y o (i .0) d (omega (arith, ap steps (i .2), one-step (wanted s))))
   where
     go : (x : Turn) → Later all (s .table) x → Took (usesNext s) x → (j : Uses) → TurnLeads (tableOf x .words) o j (Unit {0}) x → k ≡ oneUse (wanted s) ⊕ j
         → ((z : State) → Good all z → Leads (z .table .words) z o j → Ends o (z .uses ⊕ j) (uses all m z))
@@ -74,7 +74,7 @@ apply-complete {w} {u} {s} {f} {n} {limit} e h l {r} {k} d m =
     b = begin w u f n
 
     lacked : {z : State} {c : Refusal} → Lacks all z c → (Refused c ≡ Refused Nodes) ⊎ (Refused c ≡ Refused Frames)
-    lacked (no-place h l) = inl refl
+    lacked (no-place h f l) = inl refl
     lacked (all-held h l) = inr refl
 
     by : (x : Turn) → uses all limit b ≡ x → Ends r (noUses ⊕ k) x

@@ -103,7 +103,7 @@ module _ (w : List ℕ) (u : ℕ) (s : List ℕ) (f n limit : ℕ) where
         only = λ d. apply-unique d x .1;
         steps-are = omega (arith, ap steps d);
         within-limit = omega (arith, c .1);
-        used-is = omega (arith, new, ap newNodes d);
+        used-most = omega (arith, new, ap newNodes d);
         ends = rw (r, ← a, ← b, ← d) q;
         fine = rw (r, ← b) (y .fine);
         extends = rw (r, ← b) (y .extends);
@@ -112,8 +112,8 @@ module _ (w : List ℕ) (u : ℕ) (s : List ℕ) (f n limit : ℕ) where
       }
 
   -- An application that completes follows the five rules with exactly the uses that it reports: "Each use is one step, counted when taken". "Their sum is the
-  -- steps, and on success leaf plus stem is the number of nodes made by Apply." ([5]) "Success also sets the stack to 0, and no other table word than those of
-  -- new nodes changes", so old nodes keep their trees.
+  -- steps" ([5]), and leaf plus stem is at least the number of nodes made ([8]). "Success also sets the stack to 0, and no other table word than those of new
+  -- nodes changes", so old nodes keep their trees.
   pub apply-follows : (v u′ j : ℕ) (k : Uses) → apply w u s f n limit .answer ≡ Node v u′ j k → Follows w u s f n limit v u′ j k
   apply-follows v u′ j k e = go (ways w u s f n limit)
     where

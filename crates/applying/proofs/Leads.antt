@@ -5,13 +5,12 @@ use mathlib.Core.List.{List, [], _∷_}
 use native.Mathlib.Omega.{arith}
 use lib.ListN.{length}
 use lib.Dec.{ltb}
-use borrow.Author.Tests.{ltb-true}
 use Rattle.calculus.specs.Tree.{Tree, leaf, stem, fork}
 use Rattle.calculus.specs.declared.Uses.{Uses}
 use Rattle.calculus.specs.Uses.{noUses, oneLeaf, oneStem, oneDrop, oneSpread, oneTriage, _⊕_, steps}
 use Rattle.calculus.specs.Rules.{Apply, by-leaf, by-stem, by-drop, by-spread, by-triage}
 use Rattle.calculus.proofs.Counts.{uses-assoc}
-use Rattle.table.specs.Nodes.{Table, capacity, first, second, Sound, treeAt, make}
+use Rattle.table.specs.Nodes.{Table, Placed, Making, got, full, first, second, Sound, treeAt, make}
 use Rattle.table.specs.Claims.{Has, Kept, Places}
 use Rattle.table.proofs.Words.{sound-node}
 use Rattle.table.proofs.Trees.{tree-leaf, tree-stem, tree-fork, kept-tree, kept-trans}
@@ -20,9 +19,9 @@ use Rattle.applying.specs.declared.Rule.{Rule}
 use Rattle.applying.specs.declared.Rule.the-variants.{Leaf, Stem, Drop, Spread, Triage}
 use Rattle.applying.specs.declared.Frame.{Frame}
 use Rattle.applying.specs.declared.Frame.the-variants.{SpreadFirst, SpreadSecond, TriageFirst}
-use Rattle.applying.specs.Machine.{forkRule, rule, State, wanted, Turn, more, done, stop, resume, grow, hold, useRule, turn}
+use Rattle.applying.specs.Machine.{forkRule, rule, State, wanted, Turn, more, done, stop, resume, growBy, grow, hold, useRule, turn}
 use Rattle.applying.specs.States.{Good, FramesIn, TreeBy}
-use Rattle.applying.proofs.States.{cond-by, words-by, RuleIn, rule-in, tableOf, turn-later, oneUse, usesNext, turn-is}
+use Rattle.applying.proofs.States.{cond-by, words-by, RuleIn, rule-in, tableOf, resume-table, turn-later, oneUse, usesNext, turn-is}
 
 -- f is applied to n, and P goes on from the outcome; k are the uses of all that
 pub record Then (f n : Tree) (P : Tree → Uses → Type 0) (k : Uses) : Type 0 where
@@ -164,28 +163,30 @@ module _ {all : ℕ} {s : State} (g : Good all s) {y : Table} (fine : Sound y) (
   abbrev Left : Tree → Type 0
   Left x = Use x (tree (s .argument)) (Cont (y .words) o (s .frames)) k
 
-  resume-leads : (S : Type 0) (t : Table) (fs : List Frame) (j : Uses) (v : ℕ)
-      → (TurnLeads (y .words) o k S (resume t fs j v) ≡ Cont (y .words) o fs (tree v) k) × (tableOf (resume t fs j v) ≡ t)
+  resume-leads : (S : Type 0) (t : Table) (fs : List Frame) (j : Uses) (v : ℕ) → TurnLeads (y .words) o k S (resume t fs j v) ≡ Cont (y .words) o fs (tree v) k
   unfolding resume
-  resume-leads S t [] j v = (refl, refl)
-  resume-leads S t (SpreadFirst p n ∷ fs) j v = (refl, refl)
-  resume-leads S t (SpreadSecond u ∷ fs) j v = (refl, refl)
-  resume-leads S t (TriageFirst q ∷ fs) j v = (refl, refl)
+  resume-leads S t [] j v = refl
+  resume-leads S t (SpreadFirst p n ∷ fs) j v = refl
+  resume-leads S t (SpreadSecond u ∷ fs) j v = refl
+  resume-leads S t (TriageFirst q ∷ fs) j v = refl
 
   old : {i : ℕ} → i < s .table .used → Has (s .table) i (tree i)
   old {i} h = record { inside = h; tree = sym (kept-tree (g .fine) kept i h) }
 
-  grow-leads : (i : Uses) (a b : ℕ) {x : Tree} → (s .table .used < capacity (s .table .words) → Places (s .table) (make (s .table) a b) x)
+  grow-leads : (i : Uses) (a b : ℕ) {x : Tree} → ((m : Placed) → make (s .table) a b ≡ got m → Places (s .table) m x)
       → Kept (tableOf (grow s i a b)) y
       → TurnLeads (y .words) o k (Cont (y .words) o (s .frames) x k) (grow s i a b) ≡ Cont (y .words) o (s .frames) x k
-  unfolding grow
-  grow-leads i a b {x} p =
-      cond-by (λ z. Kept (tableOf z) y → TurnLeads (y .words) o k (Cont (y .words) o (s .frames) x k) z ≡ Cont (y .words) o (s .frames) x k)
-      (ltb (s .table .used) (capacity (s .table .words)))
-      (λ e j. let q = p (ltb-true _ _ e) in
-      let r = resume-leads _ (make (s .table) a b .table) (s .frames) i (make (s .table) a b .node) in
-      r .0 ∙ ap (λ (z : Tree). Cont (y .words) o (s .frames) z k) (kept-tree (q .fine) (rw (r .1) at j) _ (q .inside) ∙ q .tree))
-      (λ e j. refl)
+  unfolding grow growBy
+  grow-leads i a b {x} p = go (make (s .table) a b) refl
+    where
+      go : (z : Making) → make (s .table) a b ≡ z → Kept (tableOf (growBy (s .frames) i z)) y
+          → TurnLeads (y .words) o k (Cont (y .words) o (s .frames) x k) (growBy (s .frames) i z) ≡ Cont (y .words) o (s .frames) x k
+      go (got m) e j =
+          let q : Places (s .table) m x = p m e in
+          resume-leads _ (m .table) (s .frames) i (m .node)
+          ∙ ap (λ (z : Tree). Cont (y .words) o (s .frames) z k)
+          (kept-tree (q .fine) (rw (resume-table (m .table) (s .frames) i (m .node)) at j) (m .node) (q .inside) ∙ q .tree)
+      go (full z) e j = refl
 
   hold-leads : (i : Uses) (e : Frame) (f n : ℕ) {S : Type 0}
       → S ≡ Leads (y .words) (record { table = s .table; function = f; argument = n; frames = e ∷ s .frames; uses = i }) o k
@@ -196,9 +197,9 @@ module _ {all : ℕ} {s : State} (g : Good all s) {y : Table} (fine : Sound y) (
   use-leads : (c : Uses) (r : Rule) (x : Tree) → RuleIn (s .table .used) r → TreeBy (y .words) r x → Kept (tableOf (useRule all s c r)) y
       → TurnLeads (y .words) o k (Left x) (useRule all s c r) ≡ Left x
   unfolding useRule
-  use-leads c Leaf x i e j = rw e (grow-leads c (s .argument + 1) 0 (λ h. stem-of (g .fine) h (old (g .argument-in))) j)
-  use-leads c (Stem p) x i e j = rw e (grow-leads c (p + 1) (s .argument + 1) (λ h. fork-of (g .fine) h (old i) (old (g .argument-in))) j)
-  use-leads c (Drop z) x i e j = rw e (resume-leads _ (s .table) (s .frames) c z .0)
+  use-leads c Leaf x i e j = rw e (grow-leads c (s .argument + 1) 0 (λ m. stem-of (g .fine) (old (g .argument-in))) j)
+  use-leads c (Stem p) x i e j = rw e (grow-leads c (p + 1) (s .argument + 1) (λ m. fork-of (g .fine) (old i) (old (g .argument-in))) j)
+  use-leads c (Drop z) x i e j = rw e (resume-leads _ (s .table) (s .frames) c z)
   use-leads c (Spread p z) x i e j = rw e (hold-leads c (SpreadFirst p (s .argument)) z (s .argument) refl)
   use-leads c (Triage p q) x i e j = rw (e .1) (hold-leads c (TriageFirst q) (s .argument) p refl)
 

@@ -3,6 +3,7 @@ use Prim.Native.Nat.{ℕ, zero, suc, _+_, _-_, _≤_, _<_}
 use mathlib.Core.Path.{_≡_, refl, ap}
 use mathlib.Core.Bool.{Bool, true, false, cond}
 use mathlib.Core.List.{List, [], _∷_}
+use mathlib.Core.Option.{none}
 use native.Mathlib.Omega.{arith}
 use lib.ListN.{length}
 use lib.Dec.{ltb, eqb}
@@ -10,20 +11,22 @@ use borrow.Author.Tests.{ltb-true, ltb-false, eqb-true, eqb-false}
 use Rattle.calculus.specs.Tree.{Tree}
 use Rattle.calculus.specs.declared.Uses.{Uses}
 use Rattle.calculus.specs.Uses.{oneLeaf, oneStem, oneDrop, oneSpread, oneTriage, _⊕_, steps, newNodes}
-use Rattle.table.specs.Nodes.{Table, Placed, capacity, first, second, Sound, make}
+use Rattle.table.specs.Nodes.{Table, Placed, Making, got, full, capacity, first, second, find, Sound, treeAt, make}
 use Rattle.table.specs.declared.Refusal.{Refusal}
 use Rattle.table.specs.declared.Refusal.the-variants.{Nodes, Frames}
-use Rattle.table.specs.Claims.{Extends, Places}
+use Rattle.table.specs.Claims.{Extends, Places, Has, Makes}
+use Rattle.table.specs.Claims.Makes.{found, made, no-place}
 use Rattle.table.proofs.Words.{sound-node}
 use Rattle.table.proofs.Trees.{extends-refl, extends-trans}
-use Rattle.table.proofs.Making.{make-used, make-stem, make-fork}
+use Rattle.table.proofs.Making.{make-case, full-case, make-most, stem-of, fork-of}
 use Rattle.applying.specs.declared.Rule.{Rule}
 use Rattle.applying.specs.declared.Rule.the-variants.{Leaf, Stem, Drop, Spread, Triage}
 use Rattle.applying.specs.declared.Frame.{Frame}
 use Rattle.applying.specs.declared.Frame.the-variants.{SpreadFirst, SpreadSecond, TriageFirst}
 use Rattle.applying.specs.States.{FrameIn, FramesIn, Good}
+use Rattle.applying.specs.Lacks.{WantsNode, of-leaf, of-stem}
 pub use Rattle.applying.specs.States.{tableOf, Counted}
-use Rattle.applying.specs.Machine.{forkRule, rule, needsNode, needsFrame, State, wanted, Turn, more, done, stop, resume, grow, hold, useRule, takeRule, turn, after, uses, madeAfter, made}
+use Rattle.applying.specs.Machine.{forkRule, rule, needsFrame, State, wanted, Turn, more, done, stop, resume, growBy, grow, hold, useRule, takeRule, turn, after, uses}
 
 -- a choice by a test, with what the test says
 pub cond-by {ℓ} : {A : Type 0} (P : A → Type ℓ) (b : Bool) {x y : A} → (b ≡ true → P x) → (b ≡ false → P y) → P (cond b x y)
@@ -104,6 +107,18 @@ pub record Later (all : ℕ) (t : Table) (x : Turn) : Type 0 where
   pub extends : Extends t (tableOf x)
   pub ready : Ready all x
 
+-- the last frame that is taken, and one that is written, change no table
+pub resume-table : (t : Table) (fs : List Frame) (k : Uses) (v : ℕ) → tableOf (resume t fs k v) ≡ t
+unfolding resume
+resume-table t [] k v = refl
+resume-table t (SpreadFirst p n ∷ fs) k v = refl
+resume-table t (SpreadSecond u ∷ fs) k v = refl
+resume-table t (TriageFirst q ∷ fs) k v = refl
+
+pub hold-table : (all : ℕ) (s : State) (k : Uses) (e : Frame) (f n : ℕ) → tableOf (hold all s k e f n) ≡ s .table
+unfolding hold
+hold-table all s k e f n = cond-by (λ x. tableOf x ≡ s .table) (ltb (length (s .frames)) all) (λ b. refl) (λ b. refl)
+
 goes : {all : ℕ} {t : Table} {z : State} → Good all z → Extends t (z .table) → Later all t (more z)
 goes g x = record { fine = g .fine; extends = x; ready = g }
 
@@ -122,14 +137,15 @@ resume-later f x (TriageFirst q ∷ fs) k v i h l =
     goes (record { fine = f; function-in = l; argument-in = i .0; frames-in = i .1; held-in = omega arith }) x
 
 module _ {all : ℕ} {s : State} (g : Good all s) where
-  grow-later : (k : Uses) (a b : ℕ) {x : Tree} → (s .table .used < capacity (s .table .words) → Places (s .table) (make (s .table) a b) x)
-      → Later all (s .table) (grow s k a b)
-  unfolding grow
-  grow-later k a b m =
-      cond-by (Later all (s .table)) (ltb (s .table .used) (capacity (s .table .words)))
-      (λ e. let p = m (ltb-true _ _ e) in
-      resume-later (p .fine) (p .extends) (s .frames) _ _ (frames-up (p .extends .kept .up) (s .frames) (g .frames-in)) (g .held-in) (p .inside))
-      (λ e. halts all Nodes (g .fine))
+  grow-later : (k : Uses) (a b : ℕ) {x : Tree} → ((m : Placed) → make (s .table) a b ≡ got m → Places (s .table) m x) → Later all (s .table) (grow s k a b)
+  unfolding grow growBy
+  grow-later k a b {x} p = go (make (s .table) a b) refl
+    where
+      go : (y : Making) → make (s .table) a b ≡ y → Later all (s .table) (growBy (s .frames) k y)
+      go (got m) e =
+          let q : Places (s .table) m x = p m e in
+          resume-later (q .fine) (q .extends) (s .frames) k (m .node) (frames-up (q .extends .kept .up) (s .frames) (g .frames-in)) (g .held-in) (q .inside)
+      go (full z) e = rw (full-case (s .table) a b e .same) (halts all Nodes (g .fine))
 
   hold-later : (k : Uses) (e : Frame) (f n : ℕ) → FrameIn (s .table .used) e → f < s .table .used → n < s .table .used → Later all (s .table) (hold all s k e f n)
   unfolding hold
@@ -139,10 +155,13 @@ module _ {all : ℕ} {s : State} (g : Good all s) where
       (extends-refl (s .table)))
       (λ b. halts all Frames (g .fine))
 
+  in-use : {i : ℕ} → i < s .table .used → Has (s .table) i (treeAt (s .table .words) i)
+  in-use h = record { inside = h; tree = refl }
+
   use-later : (k : Uses) (r : Rule) → RuleIn (s .table .used) r → Later all (s .table) (useRule all s k r)
   unfolding useRule
-  use-later k Leaf i = grow-later k (s .argument + 1) 0 (λ h. make-stem (g .fine) h (s .argument) (g .argument-in))
-  use-later k (Stem p) i = grow-later k (p + 1) (s .argument + 1) (λ h. make-fork (g .fine) h p (s .argument) i (g .argument-in))
+  use-later k Leaf i = grow-later k (s .argument + 1) 0 (λ m. stem-of (g .fine) (in-use (g .argument-in)))
+  use-later k (Stem p) i = grow-later k (p + 1) (s .argument + 1) (λ m. fork-of (g .fine) (in-use i) (in-use (g .argument-in)))
   use-later k (Drop y) i = resume-later (g .fine) (extends-refl (s .table)) (s .frames) k y (g .frames-in) (g .held-in) i
   use-later k (Spread p y) i = hold-later k (SpreadFirst p (s .argument)) y (s .argument) (i .0, g .argument-in) (i .1) (g .argument-in)
   use-later k (Triage p q) i = hold-later k (TriageFirst q) (s .argument) p (i .1) (g .argument-in) (i .0)
@@ -167,7 +186,7 @@ uses-later (suc k) {all} {s} g = go (turn all s) (turn-later g) (λ (z : State) 
     go (done p j) l r = l
     go (stop e t) l r = l
 
--- Every use, from any state: a further application or an outcome with the uses k, or a stop for a node or a frame that the rule needs.
+-- Every use, from any state: a further application or an outcome with the uses k, or a stop for a node that has no place or a frame that the rule needs.
 module _ (all : ℕ) (s : State) (k : Uses) (P : Turn → Type 0) (goes-on : (z : State) → z .uses ≡ k → P (more z)) (ends : (p : Placed) → P (done p k)) where
   resume-by : (t : Table) (fs : List Frame) (v : ℕ) → P (resume t fs k v)
   unfolding resume
@@ -176,19 +195,29 @@ module _ (all : ℕ) (s : State) (k : Uses) (P : Turn → Type 0) (goes-on : (z 
   resume-by t (SpreadSecond u ∷ fs) v = goes-on _ refl
   resume-by t (TriageFirst q ∷ fs) v = goes-on _ refl
 
+  grow-by : (a b : ℕ) → (find (s .table .words) (s .table .used) a b ≡ none → capacity (s .table .words) ≤ s .table .used → P (stop Nodes (s .table)))
+      → P (grow s k a b)
+  unfolding grow growBy
+  grow-by a b n = go (make-case (s .table) a b)
+    where
+      go : {y : Making} → Makes (s .table) a b y → P (growBy (s .frames) k y)
+      go (found f) = resume-by _ (s .frames) _
+      go (made f h) = resume-by _ (s .frames) _
+      go (no-place f h) = n f h
+
   use-by : (r : Rule)
-      → (needsNode r ≡ true → capacity (s .table .words) ≤ s .table .used → P (stop Nodes (s .table)))
+      → ((a b : ℕ) → WantsNode (s .argument) r a b → find (s .table .words) (s .table .used) a b ≡ none → capacity (s .table .words) ≤ s .table .used → P (stop Nodes (s .table)))
       → (needsFrame r ≡ true → all ≤ length (s .frames) → P (stop Frames (s .table)))
       → P (useRule all s k r)
-  unfolding useRule grow hold needsNode needsFrame
-  use-by Leaf a b = cond-by P (ltb (s .table .used) (capacity (s .table .words))) (λ e. resume-by _ (s .frames) _) (λ e. a refl (ltb-false _ _ e))
-  use-by (Stem p) a b = cond-by P (ltb (s .table .used) (capacity (s .table .words))) (λ e. resume-by _ (s .frames) _) (λ e. a refl (ltb-false _ _ e))
+  unfolding useRule hold needsFrame
+  use-by Leaf a b = grow-by (s .argument + 1) 0 (a (s .argument + 1) 0 of-leaf)
+  use-by (Stem p) a b = grow-by (p + 1) (s .argument + 1) (a (p + 1) (s .argument + 1) of-stem)
   use-by (Drop y) a b = resume-by (s .table) (s .frames) y
   use-by (Spread p y) a b = cond-by P (ltb (length (s .frames)) all) (λ e. goes-on _ refl) (λ e. b refl (ltb-false _ _ e))
   use-by (Triage p q) a b = cond-by P (ltb (length (s .frames)) all) (λ e. goes-on _ refl) (λ e. b refl (ltb-false _ _ e))
 
 pub turn-by : (all : ℕ) (s : State) (P : Turn → Type 0) → ((z : State) → z .uses ≡ usesNext s → P (more z)) → ((p : Placed) → P (done p (usesNext s)))
-    → (needsNode (wanted s) ≡ true → capacity (s .table .words) ≤ s .table .used → P (stop Nodes (s .table)))
+    → ((a b : ℕ) → WantsNode (s .argument) (wanted s) a b → find (s .table .words) (s .table .used) a b ≡ none → capacity (s .table .words) ≤ s .table .used → P (stop Nodes (s .table)))
     → (needsFrame (wanted s) ≡ true → all ≤ length (s .frames) → P (stop Frames (s .table)))
     → P (turn all s)
 turn-by all s P goes-on ends a b = rw (turn-is all s) (use-by all s (usesNext s) P goes-on ends (wanted s) a b)
@@ -201,20 +230,19 @@ Took k (stop e t) = Unit {0}
 
 -- "Each use of a rule tells which of the five it was." ([5])
 pub turn-took : (all : ℕ) (s : State) → Took (usesNext s) (turn all s)
-turn-took all s = turn-by all s (Took (usesNext s)) (λ z e. e) (λ p. refl) (λ a b. tt) (λ a b. tt)
+turn-took all s = turn-by all s (Took (usesNext s)) (λ z e. e) (λ p. refl) (λ a b n f h. tt) (λ n h. tt)
 
--- one use of a rule is one step, and makes a node where the rule needs one
-pub one-step : (r : Rule) → (steps (oneUse r) ≡ 1) × (newNodes (oneUse r) ≡ cond (needsNode r) 1 0)
-unfolding needsNode
-one-step Leaf = (refl, refl)
-one-step (Stem p) = (refl, refl)
-one-step (Drop y) = (refl, refl)
-one-step (Spread p y) = (refl, refl)
-one-step (Triage p q) = (refl, refl)
+-- one use of a rule is one step
+pub one-step : (r : Rule) → steps (oneUse r) ≡ 1
+one-step Leaf = refl
+one-step (Stem p) = refl
+one-step (Drop y) = refl
+one-step (Spread p y) = refl
+one-step (Triage p q) = refl
 
 -- "Each use is one step, counted when taken".
 pub turn-steps : (all : ℕ) (s : State) → Counted (steps (s .uses)) 1 (turn all s)
-turn-steps all s = go (turn all s) (turn-took all s) (one-step (wanted s) .0)
+turn-steps all s = go (turn all s) (turn-took all s) (one-step (wanted s))
   where
     go : (x : Turn) → Took (usesNext s) x → steps (oneUse (wanted s)) ≡ 1 → Counted (steps (s .uses)) 1 x
     go (more z) t o = omega (arith, ap steps t)
@@ -239,70 +267,51 @@ uses-steps all (suc k) s = go (turn all s) (turn-steps all s) (uses-steps all k)
     go (done p j) c r = omega arith
     go (stop e t) c r = tt
 
--- The nodes in use after a turn: "one new node" (leaf and stem) where the rule needs one and the use is taken.
+-- The nodes in use after a turn: "one new node" at most (leaf and stem), or none (drop, spread and triage).
 module _ (all : ℕ) (s : State) where
   abbrev Grew : ℕ → Turn → Type 0
-  Grew n x = tableOf x .used ≡ s .table .used + madeAfter (λ z. 0) n x
-
-  resume-grew : (n : ℕ) (t : Table) (fs : List Frame) (k : Uses) (v : ℕ) → t .used ≡ s .table .used + n → Grew n (resume t fs k v)
-  unfolding resume madeAfter
-  resume-grew n t [] k v e = e
-  resume-grew n t (SpreadFirst p m ∷ fs) k v e = omega arith
-  resume-grew n t (SpreadSecond u ∷ fs) k v e = omega arith
-  resume-grew n t (TriageFirst q ∷ fs) k v e = omega arith
+  Grew n x = tableOf x .used ≤ s .table .used + n
 
   grow-grew : (k : Uses) (a b : ℕ) → Grew 1 (grow s k a b)
-  unfolding grow madeAfter
-  grow-grew k a b =
-      cond-by (Grew 1) (ltb (s .table .used) (capacity (s .table .words)))
-      (λ e. resume-grew 1 _ (s .frames) _ _ (make-used (s .table) a b)) (λ e. omega arith)
+  unfolding grow growBy
+  grow-grew k a b = go (make (s .table) a b) refl
+    where
+      go : (y : Making) → make (s .table) a b ≡ y → Grew 1 (growBy (s .frames) k y)
+      go (got m) e = rw (resume-table (m .table) (s .frames) k (m .node)) (make-most (s .table) a b e)
+      go (full z) e = rw (full-case (s .table) a b e .same) (omega arith)
 
   hold-grew : (k : Uses) (e : Frame) (f n : ℕ) → Grew 0 (hold all s k e f n)
-  unfolding hold madeAfter
-  hold-grew k e f n = cond-by (Grew 0) (ltb (length (s .frames)) all) (λ e. omega arith) (λ e. omega arith)
+  hold-grew k e f n = rw (hold-table all s k e f n) (omega arith)
 
-  use-grew : (k : Uses) (r : Rule) → Grew (cond (needsNode r) 1 0) (useRule all s k r)
-  unfolding useRule needsNode
+  use-grew : (k : Uses) (r : Rule) → Grew (newNodes (oneUse r)) (useRule all s k r)
+  unfolding useRule
   use-grew k Leaf = grow-grew k (s .argument + 1) 0
   use-grew k (Stem p) = grow-grew k (p + 1) (s .argument + 1)
-  use-grew k (Drop y) = resume-grew 0 (s .table) (s .frames) k y (omega arith)
+  use-grew k (Drop y) = rw (resume-table (s .table) (s .frames) k y) (omega arith)
   use-grew k (Spread p y) = hold-grew k (SpreadFirst p (s .argument)) y (s .argument)
   use-grew k (Triage p q) = hold-grew k (TriageFirst q) (s .argument) p
 
-  turn-grew : Grew (cond (needsNode (wanted s)) 1 0) (turn all s)
+  turn-grew : Grew (newNodes (oneUse (wanted s))) (turn all s)
   turn-grew = rw (turn-is all s) (use-grew (usesNext s) (wanted s))
 
--- "leaf: [..] one new node. stem: [..] one new node.": the nodes in use after at most k uses are those before and those made.
-pub uses-made : (all k : ℕ) (s : State) → tableOf (uses all k s) .used ≡ s .table .used + made all k s
-unfolding uses after made madeAfter
-uses-made all zero s = omega arith
-uses-made all (suc k) s = go _ (turn all s) (turn-grew all s) (uses-made all k)
-  where
-    go : (n : ℕ) (x : Turn) → Grew all s n x → ((z : State) → tableOf (uses all k z) .used ≡ z .table .used + made all k z)
-        → tableOf (after (uses all k) x) .used ≡ s .table .used + madeAfter (made all k) n x
-    go n (more z) e r = omega (arith, e, r z)
-    go n (done p j) e r = e
-    go n (stop c t) e r = e
-
--- the nodes in use are more than in the state s by one for each use of leaf and stem counted since
+-- the nodes in use are more than in the state s by at most one for each use of leaf and stem counted since
 abbrev pub New : State → Turn → Type 0
-New s (more z) = z .table .used + newNodes (s .uses) ≡ s .table .used + newNodes (z .uses)
-New s (done p j) = p .table .used + newNodes (s .uses) ≡ s .table .used + newNodes j
+New s (more z) = z .table .used + newNodes (s .uses) ≤ s .table .used + newNodes (z .uses)
+New s (done p j) = p .table .used + newNodes (s .uses) ≤ s .table .used + newNodes j
 New s (stop e t) = Unit {0}
 
 turn-new : (all : ℕ) (s : State) → New s (turn all s)
-unfolding madeAfter
-turn-new all s = go (turn all s) (turn-took all s) (turn-grew all s) (one-step (wanted s) .1)
+turn-new all s = go (turn all s) (turn-took all s) (turn-grew all s)
   where
-    go : (x : Turn) → Took (usesNext s) x → Grew all s (cond (needsNode (wanted s)) 1 0) x → newNodes (oneUse (wanted s)) ≡ cond (needsNode (wanted s)) 1 0 → New s x
-    go (more z) t g o = omega (arith, ap newNodes t)
-    go (done p j) t g o = omega (arith, ap newNodes t)
-    go (stop e t) x g o = tt
+    go : (x : Turn) → Took (usesNext s) x → Grew all s (newNodes (oneUse (wanted s))) x → New s x
+    go (more z) t g = omega (arith, ap newNodes t)
+    go (done p j) t g = omega (arith, ap newNodes t)
+    go (stop e t) x g = tt
 
--- "leaf plus stem is the number of nodes made" ([5])
+-- "[5]'s node sum becomes an upper bound" ([8])
 pub uses-new : (all k : ℕ) (s : State) → New s (uses all k s)
 unfolding uses after
-uses-new all zero s = refl
+uses-new all zero s = omega arith
 uses-new all (suc k) s = go (turn all s) (turn-new all s) (uses-new all k)
   where
     on : (z : State) (x : Turn) → New s (more z) → New z x → New s x
@@ -315,9 +324,9 @@ uses-new all (suc k) s = go (turn all s) (turn-new all s) (uses-new all k)
     go (done p j) a r = a
     go (stop e t) a r = tt
 
--- the nodes made had their places
-pub made-within : (k : ℕ) {all : ℕ} {s : State} → Good all s → s .table .used + made all k s ≤ capacity (s .table .words)
-made-within k {all} {s} g = let l = uses-later k g in omega (arith, uses-made all k s, l .fine .within, l .extends .kept .same-length)
+-- the nodes in use after any number of uses had their places
+pub uses-within : (k : ℕ) {all : ℕ} {s : State} → Good all s → tableOf (uses all k s) .used ≤ capacity (s .table .words)
+uses-within k {all} {s} g = let l = uses-later k g in omega (arith, l .fine .within, l .extends .kept .same-length)
 
 -- A run can be paused: at most a uses and then, from the state they left, at most b are at most a + b uses.
 pub uses-add : (all a b : ℕ) (s : State) → uses all (a + b) s ≡ after (uses all b) (uses all a s)

@@ -1,11 +1,10 @@
 -- The whole outcome of Apply (Operations, Apply). Assumes nothing: these are definitions.
 use Prim.Native.Nat.{ℕ}
-use mathlib.Core.Bool.{Bool, true, false, cond, _&&_}
+use mathlib.Core.Bool.{cond, _&&_}
 use mathlib.Core.List.{List, []}
 use lib.Dec.{ltb, leb}
 use Rattle.calculus.specs.declared.Uses.{Uses}
 use Rattle.calculus.specs.Uses.{noUses, steps}
-use Rattle.table.specs.Nodes.{Table, Placed}
 use Rattle.table.specs.Outcome.{Outcome, whole, frames, zeros, atEntry, unless, stopped}
 use Rattle.table.specs.Refusal.{Numbers, refusedNumbers}
 use Rattle.table.specs.declared.Refusal.the-variants.{Steps}

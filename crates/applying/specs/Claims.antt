@@ -16,8 +16,8 @@ use Rattle.applying.specs.Machine.{done, uses}
 use Rattle.applying.specs.Apply.{begin, apply}
 
 -- What a completed application is, that gave node v, j steps and the uses k, and left u′ nodes in use: "Each use is one step, counted when taken" (The five
--- rules); "Their sum is the steps, and on success leaf plus stem is the number of nodes made by Apply." ([5]); "Success also sets the stack to 0, and no
--- other table word than those of new nodes changes." (Operations)
+-- rules); "Their sum is the steps" ([5]), and leaf plus stem is at least the number of nodes made: "[5]'s node sum becomes an upper bound" ([8]); "Success
+-- also sets the stack to 0, and no other table word than those of new nodes changes." (Operations)
 pub record Follows (w : List ℕ) (u : ℕ) (s : List ℕ) (f n limit v u′ j : ℕ) (k : Uses) : Type 0 where
   pub entered : atEntry (leb limit 1000000) w u s ≡ none
   pub function-in : f < u
@@ -27,7 +27,7 @@ pub record Follows (w : List ℕ) (u : ℕ) (s : List ℕ) (f n limit v u′ j :
   pub only : {r : Tree} {i : Uses} → Apply (treeAt w f) (treeAt w n) r i → i ≡ k
   pub steps-are : j ≡ steps k
   pub within-limit : j ≤ limit
-  pub used-is : u′ ≡ u + newNodes k
+  pub used-most : u′ ≤ u + newNodes k
   pub ends : uses (frames s) limit (begin w u f n) ≡ done (record { table = record { words = apply w u s f n limit .table; used = u′ }; node = v }) k
   pub fine : Sound (record { words = apply w u s f n limit .table; used = u′ })
   pub extends : Extends (record { words = w; used = u }) (record { words = apply w u s f n limit .table; used = u′ })

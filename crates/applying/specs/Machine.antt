@@ -6,7 +6,7 @@ use lib.ListN.{length}
 use lib.Dec.{ltb, eqb}
 use Rattle.calculus.specs.declared.Uses.{Uses}
 use Rattle.calculus.specs.Uses.{oneLeaf, oneStem, oneDrop, oneSpread, oneTriage, _⊕_}
-use Rattle.table.specs.Nodes.{Table, Placed, capacity, first, second, make}
+use Rattle.table.specs.Nodes.{Table, Placed, Making, got, full, first, second, make}
 use Rattle.table.specs.declared.Refusal.{Refusal}
 use Rattle.table.specs.declared.Refusal.the-variants.{Nodes, Frames}
 use Rattle.applying.specs.declared.Rule.{Rule}
@@ -27,15 +27,7 @@ rule w f =
     (cond (eqb (second w f) 0) (Stem (first w f - 1))
     (forkRule w (first w f - 1) (second w f - 1)))
 
--- What a rule needs: "one new node" (leaf and stem), or a frame ("Spread holds one frame during its first two applications, triage during its
--- first").
-unfoldable pub needsNode : Rule → Bool
-needsNode Leaf = true
-needsNode (Stem p) = true
-needsNode (Drop y) = false
-needsNode (Spread p y) = false
-needsNode (Triage p q) = false
-
+-- whether a rule needs a frame: "Spread holds one frame during its first two applications, triage during its first"
 unfoldable pub needsFrame : Rule → Bool
 needsFrame Leaf = false
 needsFrame (Stem p) = false
@@ -65,12 +57,14 @@ resume t (SpreadFirst p n ∷ fs) k v = more (record { table = t; function = p; 
 resume t (SpreadSecond u ∷ fs) k v = more (record { table = t; function = u; argument = v; frames = fs; uses = k })
 resume t (TriageFirst q ∷ fs) k v = more (record { table = t; function = v; argument = q; frames = fs; uses = k })
 
--- "then 8 if a new node has no place": the outcome is a new node with the words a and b; k are the uses with this one
+-- "then 8 if a new node has no place"; "8 comes only when a node not yet in the table is wanted and the table is full" ([8]): the outcome is the node with
+-- the words a and b; k are the uses with this one
+unfoldable pub growBy : List Frame → Uses → Making → Turn
+growBy fs k (got m) = resume (m .table) fs k (m .node)
+growBy fs k (full t) = stop Nodes t
+
 unfoldable pub grow : State → Uses → ℕ → ℕ → Turn
-grow s k a b =
-    cond (ltb (s .table .used) (capacity (s .table .words)))
-    (resume (make (s .table) a b .table) (s .frames) k (make (s .table) a b .node))
-    (stop Nodes (s .table))
+grow s k a b = growBy (s .frames) k (make (s .table) a b)
 
 -- "then 9 if a frame is needed and all are held": node f is applied to node n, and the frame e is held meanwhile; k are the uses with
 -- this one
@@ -112,14 +106,3 @@ after go (stop e t) = stop e t
 unfoldable pub uses : ℕ → ℕ → State → Turn
 uses all zero s = more s
 uses all (suc k) s = after (uses all k) (turn all s)
-
--- How many nodes at most k uses make: "one new node" for each use of leaf and stem that is taken. A use that lacks something is not taken, and
--- makes none.
-unfoldable pub madeAfter : (State → ℕ) → ℕ → Turn → ℕ
-madeAfter rest n (more s) = n + rest s
-madeAfter rest n (done p k) = n
-madeAfter rest n (stop e t) = 0
-
-unfoldable pub made : ℕ → ℕ → State → ℕ
-made all zero s = 0
-made all (suc k) s = madeAfter (made all k) (cond (needsNode (wanted s)) 1 0) (turn all s)

@@ -1,5 +1,5 @@
 // The five rules on a table, one use at a time, and Apply as a definition, in specs/, and their theorems, in proofs/. Its code is in the crates
-// `frames`, `rules` and `machine`.
+// `frames`, `rules`, `machine` and `apply`.
 use calculus::Uses;
 use table::Refusal;
 

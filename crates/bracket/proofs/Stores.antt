@@ -1,4 +1,4 @@
--- Laws of runs of stores, and of words that a run leaves as they are. Assumes nothing.
+-- Laws of runs of stores. Assumes nothing.
 use Prim.Native.Nat.{ℕ, suc, _+_, _<_, _≤_}
 use mathlib.Core.Path.{_≡_, refl, sym, ap, ap₂, _∙_}
 use mathlib.Core.List.{List, [], _∷_, _++_, append-assoc}
@@ -6,11 +6,11 @@ use native.Mathlib.Nat.{add-zero, add-suc, suc-add}
 use native.Mathlib.Numerals.{add-one}
 use native.Mathlib.Omega.{arith}
 use lib.ListN.{length, drop, take, set, getD, length-append, length-drop}
-use lib.Seq.{sets, sets-eq, length-sets, set-set, set-comm, take-suc, getD-drop, getD-set-other, take-set-le, drop-set-lt, drop-at, length-take-le}
-use Rattle.bracket.specs.Words.{Holds, Written, Outside}
+use lib.Seq.{sets, sets-eq, set-set, set-comm, take-suc, getD-drop, take-set-le, drop-set-lt, drop-at, length-take-le}
+use Rattle.bracket.specs.Words.{Holds, Written}
 
 -- two runs, the second written after the first, or before it
-pub sets-more : (xs ys l : List ℕ) (q : ℕ) → sets (sets l q xs) (q + length xs) ys ≡ sets l q (xs ++ ys)
+sets-more : (xs ys l : List ℕ) (q : ℕ) → sets (sets l q xs) (q + length xs) ys ≡ sets l q (xs ++ ys)
 sets-more [] ys l q = ap (λ (k : ℕ). sets l k ys) (add-zero q)
 sets-more (x ∷ xs) ys l q =
     ap (λ (k : ℕ). sets (sets (set l q x) (suc q) xs) k ys) (add-suc q (length xs) ∙ sym (suc-add q (length xs))) ∙ sets-more xs ys (set l q x) (suc q)
@@ -43,7 +43,7 @@ sets-sets (x ∷ xs) ys l i q h = ap (λ (m : List ℕ). sets m (suc i) xs) (set
 pub sets-before : (xs ys l : List ℕ) (q k : ℕ) → k ≡ q + length xs → sets (sets l k ys) q xs ≡ sets l q (xs ++ ys)
 sets-before xs ys l q k e = sets-sets xs ys l q k (omega arith) ∙ ap (λ (i : ℕ). sets (sets l q xs) i ys) e ∙ sets-more xs ys l q
 
-take-sets : (xs l : List ℕ) (q k : ℕ) → k ≤ q → take k (sets l q xs) ≡ take k l
+pub take-sets : (xs l : List ℕ) (q k : ℕ) → k ≤ q → take k (sets l q xs) ≡ take k l
 take-sets [] l q k h = refl
 take-sets (x ∷ xs) l q k h = take-sets xs (set l q x) (suc q) k (omega arith) ∙ take-set-le k l q x h
 
@@ -58,42 +58,15 @@ stored xs l q h =
     ap (drop q) (sets-eq xs l q h ∙ append-assoc (take q l) xs _) ∙ drop-at (take q l) _ q (length-take-le q l (omega arith))
     ∙ ap (λ (r : List ℕ). xs ++ r) (sym (drop-sets xs l q (q + length xs) (omega arith)))
 
--- a run of stores over a run that is no longer
-pub over : (xs ys l : List ℕ) (q : ℕ) → length xs ≤ length ys → q + length ys ≤ length l → sets (sets l q xs) q ys ≡ sets l q ys
-over xs ys l q h g =
-    sets-eq ys (sets l q xs) q (rw (length-sets l q xs) g)
-    ∙ ap₂ (λ (a b : List ℕ). a ++ ys ++ b) (take-sets xs l q q (omega arith)) (drop-sets xs l q (q + length ys) (omega arith))
-    ∙ sym (sets-eq ys l q g)
-
--- a turn of a copy
-pub copy-step : (s d : List ℕ) (from at i : ℕ) → from + i < length s
-    → set (sets d at (take i (drop from s))) (at + i) (getD s (from + i) 0) ≡ sets d at (take (i + 1) (drop from s))
-copy-step s d from at i h =
+-- a turn of a copy to words that end before those it reads
+pub copy-step : (s : List ℕ) (from at i : ℕ) → from + i < length s → at + i ≤ from
+    → set (sets s at (take i (drop from s))) (at + i) (getD (sets s at (take i (drop from s))) (from + i) 0) ≡ sets s at (take (i + 1) (drop from s))
+copy-step s from at i h l =
     let xs : List ℕ = take i (drop from s) in
     let x : ℕ = getD s (from + i) 0 in
     let len : length xs ≡ i = length-take-le i (drop from s) (omega (arith, length-drop from s)) in
+    let same : getD (sets s at xs) (from + i) 0 ≡ x =
+    sym (getD-drop from (sets s at xs) i 0) ∙ ap (λ (m : List ℕ). getD m i 0) (drop-sets xs s at from (omega arith)) ∙ getD-drop from s i 0 in
     let one : take (i + 1) (drop from s) ≡ xs ++ (x ∷ []) =
     ap (λ (k : ℕ). take k (drop from s)) (add-one i) ∙ take-suc (drop from s) i 0 (omega (arith, length-drop from s)) ∙ ap (λ (k : ℕ). xs ++ (k ∷ [])) (getD-drop from s i 0) in
-    ap (λ (k : ℕ). set (sets d at xs) (at + k) x) (sym len) ∙ sets-more xs (x ∷ []) d at ∙ ap (sets d at) (sym one)
-
--- the words outside a run are as they were
-pub outside-refl : (a b : ℕ) (l : List ℕ) → Outside a b l l
-outside-refl a b l = record { below = λ i h. refl; beyond = λ i h. refl }
-
-pub outside-trans : {a b b₁ b₂ : ℕ} {l m n : List ℕ} → b₁ ≤ b → b₂ ≤ b → Outside a b₁ l m → Outside a b₂ m n → Outside a b l n
-outside-trans h k x y =
-    record {
-      below = λ i l. x .below i l ∙ y .below i l;
-      beyond = λ i l. x .beyond i (omega arith) ∙ y .beyond i (omega arith);
-    }
-
-pub outside-sets : (xs l : List ℕ) (q : ℕ) → Outside q (q + length xs) (sets l q xs) l
-outside-sets xs l q = record { below = λ i h. before xs l q i h; beyond = λ i h. after xs l q i h }
-  where
-    before : (xs l : List ℕ) (q i : ℕ) → i < q → getD (sets l q xs) i 0 ≡ getD l i 0
-    before [] l q i h = refl
-    before (x ∷ xs) l q i h = before xs (set l q x) (suc q) i (omega arith) ∙ getD-set-other l q i x 0 (λ e. omega arith)
-
-    after : (xs l : List ℕ) (q i : ℕ) → q + length xs ≤ i → getD (sets l q xs) i 0 ≡ getD l i 0
-    after [] l q i h = refl
-    after (x ∷ xs) l q i h = after xs (set l q x) (suc q) i (omega arith) ∙ getD-set-other l q i x 0 (λ e. omega arith)
+    ap₂ (λ (j k : ℕ). set (sets s at xs) (at + j) k) (sym len) same ∙ sets-more xs (x ∷ []) s at ∙ ap (sets s at) (sym one)

@@ -1,9 +1,9 @@
 -- A term without abstraction as a run of words, and what the functions that read and write such runs ask and give.
 -- Assumes nothing: these are definitions.
-use Prim.Native.Nat.{ℕ, _+_, _*_, _≤_, _<_}
+use Prim.Native.Nat.{ℕ, _+_, _*_, _≤_}
 use mathlib.Core.Path.{_≡_}
 use mathlib.Core.List.{List, [], _∷_, _++_}
-use lib.ListN.{length, getD, drop}
+use lib.ListN.{length, take, drop}
 use lib.Seq.{sets}
 use Rattle.calculus.specs.Term.{Term}
 use Rattle.calculus.specs.Bytes.{bytes}
@@ -20,12 +20,13 @@ words (var i) = (2 * i + 1) ∷ []
 unfoldable pub Holds : List ℕ → ℕ → List ℕ → Type 0
 Holds s p xs = drop p s ≡ xs ++ drop (p + length xs) s
 
--- a term's words stand in s from p on, and those of its bracket abstraction have room in d from q on
-pub record BracketAt (s : List ℕ) (p : ℕ) (d : List ℕ) (q : ℕ) : Type 0 where
+-- a term's words stand in s from p on and end before q, and those of its bracket abstraction have room from q on
+pub record BracketAt (s : List ℕ) (p q : ℕ) : Type 0 where
   pub body : Combination
   pub stands : Holds s p (words body)
-  pub room : q + length (words (bracket body)) ≤ length d
-  pub short : length d ≤ 131072
+  pub apart : p + length (words body) ≤ q
+  pub room : q + length (words (bracket body)) ≤ length s
+  pub short : length s ≤ 65536
 
 -- the words xs are written to d from q on, and e is the place after them
 pub record Written (d : List ℕ) (q : ℕ) (xs : List ℕ) (e : ℕ) (d′ : List ℕ) : Type 0 where
@@ -36,22 +37,18 @@ pub record Written (d : List ℕ) (q : ℕ) (xs : List ℕ) (e : ℕ) (d′ : Li
 abbrev pub run : Term → List ℕ
 run t = words (translate t)
 
--- a term stands in b from at on, and the words of its translation have room in s from w on, and in d from q on
-pub record BuildAt (b : List ℕ) (at : ℕ) (s : List ℕ) (w : ℕ) (d : List ℕ) (q : ℕ) : Type 0 where
+-- a term stands in b from at on, and the words of its translation have room in s from w up to q, and once more from q on
+pub record BuildAt (b : List ℕ) (at : ℕ) (s : List ℕ) (w q : ℕ) : Type 0 where
   pub read : Term
   pub stands : Holds b at (bytes read)
-  pub room : w + length (run read) ≤ length s
-  pub space : q + length (run read) ≤ length d
-  pub stack : length s ≤ 65536
-  pub table : length d ≤ 131072
+  pub room : w + length (run read) ≤ q
+  pub space : q + length (run read) ≤ length s
+  pub short : length s ≤ 65536
 
--- two lists have the same words before a and from b on
-pub record Outside (a b : ℕ) (l m : List ℕ) : Type 0 where
-  pub below : (i : ℕ) → i < a → getD l i 0 ≡ getD m i 0
-  pub beyond : (i : ℕ) → b ≤ i → getD l i 0 ≡ getD m i 0
-
--- The term's bytes end at next; the words of its translation are in s from w up to end; of d no other words changed than as many from q on.
-pub record Builds (at w q : ℕ) (t : Term) (next end : ℕ) (s s′ d d′ : List ℕ) : Type 0 where
+-- the term's bytes end at next, the words of its translation stand in s′ from w up to end, and the words before w are those of s
+pub record Builds (at w : ℕ) (t : Term) (next end : ℕ) (s s′ : List ℕ) : Type 0 where
   pub read : next ≡ at + length (bytes t)
-  pub written : Written s w (run t) end s′
-  pub space : Outside q (q + length (run t)) d′ d
+  pub ends : end ≡ w + length (run t)
+  pub stands : Holds s′ w (run t)
+  pub before : take w s′ ≡ take w s
+  pub same-length : length s′ ≡ length s

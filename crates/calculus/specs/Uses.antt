@@ -42,7 +42,8 @@ a ⊕ b =
 abbrev pub steps : Uses → ℕ
 steps u = u .leaf + u .stem + u .drop + u .spread + u .triage
 
--- "leaf: [..] one new node. stem: [..] one new node." (The five rules of document 01) "leaf plus stem is the number of nodes made by Apply" ([5])
+-- "leaf: [..] one new node. stem: [..] one new node." (The five rules of document 01) "leaf plus stem is the number of nodes made by Apply" ([5]),
+-- which "becomes an upper bound" ([8]): a node that is found is not made
 abbrev pub newNodes : Uses → ℕ
 newNodes u = u .leaf + u .stem
 

@@ -19,8 +19,7 @@ use Rattle.calculus.proofs.Demand3.{demand-3}
 use Rattle.table.specs.Nodes.{Table, Sound, treeAt}
 use Rattle.table.specs.Claims.{Has}
 use Rattle.table.proofs.Trees.{kept-tree}
-use Rattle.table.proofs.Making.{size-pos}
-use Rattle.ternary.proofs.OneText.{whole-text, length-text}
+use Rattle.table.proofs.Entry.{entered}
 use Rattle.ternary.proofs.Reading.{read-gives}
 use Rattle.translation.proofs.Translates.{translate-gives}
 use Rattle.applying.proofs.Follows.{apply-follows}
@@ -74,17 +73,12 @@ gave-in [] rest g = inr g
 gave-in (c ∷ before) rest (Gave.other g) = ⊎-elim (λ a. inl (Gave.other a)) inr (gave-in before rest g)
 gave-in (calls.read s l ∷ before) rest (reads e w) = inl (reads e w)
 
--- a node that a Read gave was not in use before it, since node numbers only grow
-pub gave-new : {cs : List Call} {t : Table} {v : ℕ} {x : Tree} → Gave cs t v x → t .used ≤ v
-gave-new (Gave.other {c = c} {t = t} g) = omega (arith, left-goes c t .kept .up, gave-new g)
-gave-new (reads {s = s} {l = l} {v = v} {u = u} {t = t} {x = x} e w) =
-    omega (arith, read-gives (t .words) (t .used) s l v u e .node-is, length-text x, ap length (whole-text l x w), size-pos x)
-
--- A node in use after the calls `before`, which a Read anywhere in the list gave, has the tree of that Read's text: it was given before, since a later
--- Read gives another node.
-pub gave-tree : (before rest : List Call) {t : Table} {n : ℕ} {x : Tree} → n < leftBy before t .used → Gave (before ++ rest) t n x
+-- A node in use after the calls `before`, which a Read anywhere in the list gave, has the tree of that Read's text: it was given before, or a later Read
+-- found it, and a node keeps its tree.
+pub gave-tree : (before rest : List Call) {t : Table} {n : ℕ} {x : Tree} → Sound (leftBy before t) → n < leftBy before t .used → Gave (before ++ rest) t n x
     → treeAt (leftBy before t .words) n ≡ x
-gave-tree before rest h g = ⊎-elim given (λ a. let l = gave-new a in absurd (omega arith)) (gave-in before rest g)
+gave-tree before rest s h g =
+    ⊎-elim given (λ a. sym (stays-by rest s (record { inside = h; tree = refl }) .tree) ∙ given a) (gave-in before rest g)
 
 -- the trees of the arguments of the Apply calls are those of the nodes, also where they are named by Reads
 trees-agree : {t : Table} {before cs : List Call} {f : ℕ} {args : List Argument} {r : Tree} {k : ℕ} → Applied t before cs f args r k
@@ -104,7 +98,8 @@ trees-agree {t = t} (applies {before = before} {s = s} {f = f} {n = n} {limit = 
     go (of-node {xs = ys} p) next = ap (λ (l : List Tree). argumentTree t y ∷ l) (next ys p)
     go (of-read {xs = ys} g p) next =
         let z = leftBy before t in
-        ap₂ (λ (x : Tree) (l : List Tree). x ∷ l) (sym (gave-tree before _ (apply-follows (z .words) (z .used) s f n limit v u j i e .argument-in) g)) (next ys p)
+        let q = apply-follows (z .words) (z .used) s f n limit v u j i e in
+        ap₂ (λ (x : Tree) (l : List Tree). x ∷ l) (sym (gave-tree before _ (entered _ (z .words) (z .used) s (q .entered) .table) (q .argument-in) g)) (next ys p)
 
 -- a run of the five rules on the arguments' trees, by whatever name
 claim : {cs : List Call} {z : Table} {b : List ℕ} {args : List Argument} {r : Tree} {k : ℕ} → (t : Term) → rule b ≡ some t

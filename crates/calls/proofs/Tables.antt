@@ -3,12 +3,10 @@ use Prim.Native.Nat.{ℕ}
 use mathlib.Core.Path.{_≡_, refl, ap, _∙_}
 use mathlib.Core.List.{List, [], _∷_}
 use native.Mathlib.Omega.{arith}
-use lib.ListN.{length}
 use Rattle.calculus.specs.Tree.{Tree}
 use Rattle.calculus.specs.declared.Uses.{Uses}
 use Rattle.table.specs.Nodes.{Table, Sound, sound}
-use Rattle.table.specs.Refusal.{Numbers, madeNumbers, refusedNumbers}
-use Rattle.table.specs.declared.Refusal.{Refusal}
+use Rattle.table.specs.Refusal.{madeNumbers, refusedNumbers}
 use Rattle.table.specs.declared.Made.{Made}
 use Rattle.table.specs.declared.Made.the-variants as made
 use Rattle.table.specs.Claims.{Has, Kept, Places}
@@ -53,9 +51,6 @@ placed-goes p = record { kept = p .extends .kept; sound-too = λ s. p .fine }
 refused-goes : {t : Table} {w : List ℕ} → Kept t (record { words = w; used = t .used }) → Goes t (record { words = w; used = t .used })
 refused-goes k = record { kept = k; sound-too = kept-sound k refl }
 
-same-words : {t : Table} {w : List ℕ} → w ≡ t .words → Kept t (record { words = w; used = t .used })
-same-words {t} e = rw e (kept-refl t)
-
 -- what a call leaves where its answer is known
 pub left-read : (s l : List ℕ) (t : Table) {v u : ℕ} → ternary.read (t .words) (t .used) s l .answer ≡ made.Node v u
     → left (read s l) t ≡ record { words = ternary.read (t .words) (t .used) s l .table; used = u }
@@ -79,12 +74,12 @@ left-goes (read s l) t = go (ternary.read (t .words) (t .used) s l .answer) refl
   where
     go : (a : Made) → ternary.read (t .words) (t .used) s l .answer ≡ a → Goes t (record { words = ternary.read (t .words) (t .used) s l .table; used = madeNumbers (t .used) a .used })
     go (made.Node v u) e = placed-goes (read-gives (t .words) (t .used) s l v u e .places)
-    go (made.Refused r) e = refused-goes (same-words (read-refused (t .words) (t .used) s l r e))
+    go (made.Refused r) e = refused-goes (read-refused (t .words) (t .used) s l r e)
 left-goes (translate s b) t = go (translation.translate (t .words) (t .used) s b .answer) refl
   where
     go : (a : Made) → translation.translate (t .words) (t .used) s b .answer ≡ a → Goes t (record { words = translation.translate (t .words) (t .used) s b .table; used = madeNumbers (t .used) a .used })
     go (made.Node v u) e = placed-goes (translate-gives (t .words) (t .used) s b v u e .lays .places)
-    go (made.Refused r) e = refused-goes (same-words (translate-refused (t .words) (t .used) s b r e))
+    go (made.Refused r) e = refused-goes (translate-refused (t .words) (t .used) s b r e)
 left-goes (apply s f n limit) t = go (applying.apply (t .words) (t .used) s f n limit .answer) refl
   where
     go : (a : Answer) → applying.apply (t .words) (t .used) s f n limit .answer ≡ a

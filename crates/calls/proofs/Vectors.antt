@@ -54,15 +54,16 @@ sequence =
     ∷ translate stack twiceBytes
     ∷ read stack (0x30 ∷ [])
     -- one step too few
-    ∷ apply stack 12 13 9
+    ∷ apply stack 4 0 9
     ∷ translate stack firstBytes
-    ∷ apply stack 12 13 10
-    ∷ apply stack 28 13 1000
+    ∷ apply stack 4 0 10
+    ∷ apply stack 8 0 1000
     ∷ read stack (0x31 ∷ 0x30 ∷ [])
     -- a node that is not in use
     ∷ apply stack 64 0 1000
-    ∷ apply stack 37 39 1000
-    ∷ read stack (0x30 ∷ [])
+    ∷ apply stack 5 1 1000
+    -- a text whose stem alone is new
+    ∷ read stack (0x31 ∷ 0x31 ∷ 0x30 ∷ [])
     ∷ []
 
 -- the numbers that a call returns, and those of each call of a list
@@ -80,42 +81,42 @@ returned e n u k = record { refusal = e; node = n; used = u; steps = k; digits =
 
 -- the Apply of λx.xx, and the two of λx.λy.x: each argument with the calls before it
 abbrev ofTwice : List Argument
-ofTwice = record { before = take 5 sequence; node = 13 } ∷ []
+ofTwice = record { before = take 5 sequence; node = 0 } ∷ []
 
 abbrev ofFirst : List Argument
-ofFirst = record { before = take 6 sequence; node = 13 } ∷ record { before = take 9 sequence; node = 39 } ∷ []
+ofFirst = record { before = take 6 sequence; node = 0 } ∷ record { before = take 9 sequence; node = 1 } ∷ []
 
 -- What holds of the list: the refusal, node number, used and steps of each call, the two runs, and the Reads that gave their arguments.
 pub record Computed : Type 0 where
   pub answers : numbersBy sequence start
       ≡ returned 4 0 1 0
-      ∷ returned 0 12 13 0
-      ∷ returned 0 13 14 0
-      ∷ returned 7 0 14 0
-      ∷ returned 0 28 29 0
-      ∷ returned 0 33 34 10
-      ∷ returned 0 37 38 10
-      ∷ returned 0 39 40 0
-      ∷ returned 3 0 40 0
-      ∷ returned 0 13 40 1
-      ∷ returned 0 40 41 0
+      ∷ returned 0 4 5 0
+      ∷ returned 0 0 5 0
+      ∷ returned 7 0 5 0
+      ∷ returned 0 8 9 0
+      ∷ returned 0 1 9 10
+      ∷ returned 0 5 9 10
+      ∷ returned 0 1 9 0
+      ∷ returned 3 0 9 0
+      ∷ returned 0 0 9 1
+      ∷ returned 0 9 10 0
       ∷ []
   pub twice-run : Completed start [] sequence twiceBytes ofTwice (stem leaf) 10
   pub first-run : Completed start [] sequence firstBytes ofFirst leaf 11
-  pub gave-leaf : Gave sequence start 13 leaf
-  pub gave-stem : Gave sequence start 39 (stem leaf)
+  pub gave-leaf : Gave sequence start 0 leaf
+  pub gave-stem : Gave sequence start 1 (stem leaf)
 
 pub computed : Computed
 unfolding left leftBy size
     bytes.bytes bytes.abstraction bytes.application bytes.argument bytes.parse bytes.whole bytes.rule
     abstraction.bracket abstraction.translate abstraction.grown abstraction.treeOf abstraction.ruleTree
-    nodes.broken nodes.sound nodes.branches nodes.treeTo nodes.make nodes.lay
-    outcome.fits outcome.atEntry outcome.stopped outcome.placed outcome.laid outcome.lacking outcome.laidWithin
+    nodes.broken nodes.hasWords nodes.find nodes.isNone nodes.sound nodes.branches nodes.treeTo nodes.newNode nodes.orNew nodes.make nodes.andThen nodes.lay
+    outcome.fits outcome.atEntry outcome.stopped outcome.placed outcome.settled outcome.laid outcome.laidWithin
     refusal.number refusal.refusedNumbers refusal.madeNumbers
     text.takeLeaf text.takeStem text.takeFork text.takeDigit text.pending text.single text.treeOf text.manyPending text.mostPending
     ternary.readable ternary.readTree ternary.read
     translation.translateRule translation.translate
-    machine.forkRule machine.rule machine.resume machine.grow machine.hold machine.useRule machine.takeRule machine.turn machine.after machine.uses
+    machine.forkRule machine.rule machine.resume machine.growBy machine.grow machine.hold machine.useRule machine.takeRule machine.turn machine.after machine.uses
     applying.settle applying.applyNodes applying.apply applying.appliedNumbers
 computed =
     record {

@@ -1,3 +1,3 @@
 -- The laws that the proofs of the checks cite.
-pub mod Scan
+pub mod Entry
 pub mod Room

@@ -1,9 +1,12 @@
 -- What the code's own values say in terms of the definitions. Assumes nothing: these are definitions.
 use Prim.Native.Nat.{ℕ}
+use mathlib.Core.Bool.{cond}
 use mathlib.Core.List.{List}
 use mathlib.Core.Option.{Option, none, some}
-use Rattle.table.specs.Outcome.{zeros, lacking, unless}
+use lib.Dec.{ltb}
+use Rattle.table.specs.Outcome.{frames, zeros}
 use Rattle.table.specs.declared.Refusal.{Refusal}
+use Rattle.table.specs.declared.Refusal.the-variants.{Frames}
 use Rattle.checks.specs.declared.Checked.{Checked}
 use Rattle.checks.specs.declared.Checked.the-variants.{Passed, Refused}
 
@@ -12,7 +15,7 @@ abbrev pub refusalOf : Checked → Option Refusal
 refusalOf Passed = none
 refusalOf (Refused e) = some e
 
--- what a check for room says, and the stack that it leaves: a refusal clears it
+-- what the check for frames says, and the stack that it leaves: a refusal clears it
 pub record Room : Type 0 where
   pub refusal : Option Refusal
   pub stack : List ℕ
@@ -20,5 +23,5 @@ pub record Room : Type 0 where
 abbrev pub checkedWith : Checked → List ℕ → Room
 checkedWith c s = record { refusal = refusalOf c; stack = s }
 
-unfoldable pub roomFor : List ℕ → ℕ → List ℕ → ℕ → ℕ → Room
-roomFor w u s nodes held = record { refusal = lacking w u s nodes held; stack = unless (lacking w u s nodes held) (λ e. zeros s) s }
+unfoldable pub framesFor : List ℕ → ℕ → Room
+framesFor s held = cond (ltb (frames s) held) (record { refusal = some Frames; stack = zeros s }) (record { refusal = none; stack = s })

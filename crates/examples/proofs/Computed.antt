@@ -22,16 +22,16 @@ pub starred : map (λ (r : Row). examples.line (r .input)) rows ≡ map (λ (r :
 unfolding rows size
     bytes.bytes bytes.abstraction bytes.application bytes.argument bytes.parse bytes.whole bytes.rule
     abstraction.bracket abstraction.translate abstraction.grown abstraction.treeOf abstraction.ruleTree
-    nodes.broken nodes.sound nodes.branches nodes.treeTo nodes.make nodes.lay
-    outcome.fits outcome.atEntry outcome.stopped outcome.placed outcome.laid outcome.lacking outcome.laidWithin
-    refusal.number refusal.refusedNumbers refusal.madeNumbers
+    nodes.broken nodes.hasWords nodes.find nodes.isNone nodes.sound nodes.branches nodes.treeTo nodes.newNode nodes.orNew nodes.make nodes.andThen nodes.lay
+    outcome.fits outcome.atEntry outcome.stopped outcome.placed outcome.settled outcome.laid outcome.laidWithin
+    refusal.number refusal.refusedNumbers
     text.text text.takeLeaf text.takeStem text.takeFork text.takeDigit text.pending text.single text.treeOf text.manyPending text.mostPending
     read.readable read.readTree read.read
     write.next write.spend write.digits write.written write.writeTree write.write
     translate.translateRule translate.translate
-    machine.forkRule machine.rule machine.resume machine.grow machine.hold machine.useRule machine.takeRule machine.turn machine.after machine.uses
+    machine.forkRule machine.rule machine.resume machine.growBy machine.grow machine.hold machine.useRule machine.takeRule machine.turn machine.after machine.uses
     apply.settle apply.applyNodes apply.apply
     packet.before packet.fields packet.highFirst packet.withArgument packet.afterLimit packet.afterArguments packet.afterRule packet.fromFields packet.packet packet.fieldBytes packet.argumentBytes
     run.ranNumbers run.stopped run.afterMade run.afterApplied run.afterWritten run.writes run.applies run.reads run.stages run.allReadable run.labelTexts run.partsLack run.runPacket run.lengthsFit run.run
-    examples.afterMade examples.afterApplied examples.applyLine examples.readAll examples.place examples.lengths examples.taken examples.runLine examples.line
+    examples.afterMade examples.afterApplied examples.applyLine examples.readAll examples.place examples.taken examples.runLine examples.line
 starred = refl

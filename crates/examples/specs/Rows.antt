@@ -4,7 +4,7 @@ use mathlib.Core.List.{List, [], _∷_, _++_, map}
 use lib.ListN.{length, replicate, take}
 use Rattle.table.specs.Nodes.{treeAt}
 use Rattle.table.specs.Outcome.{Outcome}
-use Rattle.table.specs.Refusal.{Numbers, number, madeNumbers}
+use Rattle.table.specs.Refusal.{Numbers, number}
 use Rattle.table.specs.declared.Made.{Made}
 use Rattle.table.specs.declared.Made.the-variants as made
 use Rattle.ternary.specs.Text.{text}
@@ -75,13 +75,11 @@ unfoldable pub place : List ℕ → Program → Outcome Made
 place w (rule b) = translate w 0 ample b
 place w (tree l) = read w 0 ample (ascii l)
 
-unfoldable pub lengths : List (List ℕ) → ℕ
-lengths [] = 0
-lengths (l ∷ ls) = length l + lengths ls
-
 -- how many nodes the program and its arguments take
 unfoldable pub taken : Program → List (List ℕ) → ℕ
-taken p ls = madeNumbers 0 (place (replicate 80 0) p .answer) .used + lengths ls
+taken p ls =
+    let o = place (replicate 80 0) p in
+    afterMade o (o .answer) (λ w u v. readAll ls w u (λ ns w′ u′. applyLine [] 0 0 0 w′ u′ v 0)) .nodes
 
 unfoldable pub runLine : Outcome Ran → Numbers → Line
 runLine o n = record { refusal = n .refusal; steps = n .steps; nodes = n .used; digits = take (n .digits) (o .out) }

@@ -45,12 +45,12 @@ fn answer(packet: &[u8]) {
 }
 
 fn main() {
-    // "Standard input in hexadecimal 01 0006 020103000300 02 0001 30 prints 0 10 18 10"
+    // "its packet's line is 0 10 6 10" ([8])
     answer(b"\x01\x00\x06\x02\x01\x03\x00\x03\x00\x02\x00\x010");
-    // "Rule 02 03 00 without arguments prints 0 0 5 21010."
+    // "Rule 02 03 00 without arguments": 21010 is three trees, 0, 10 and itself.
     answer(b"\x01\x00\x03\x02\x03\x00");
-    // "The rule 212101021010 on itself now fills the program's 8,192 nodes first, so its line there gives 8." ([2]) It is the tree of the rule
-    // 02 01 03 00 03 00. With tag 3 of 10,000 it is 7: "Packets that carry tag 3 are unaffected" ([2]).
+    // The rule 212101021010 on itself: "[2]'s endless line gives 7 again" ([8]), without tag 3 and with 10,000 there. It is the tree of the rule
+    // 02 01 03 00 03 00.
     answer(b"\x01\x00\x06\x02\x01\x03\x00\x03\x00\x02\x00\x0c212101021010");
     answer(
         b"\x01\x00\x06\x02\x01\x03\x00\x03\x00\x02\x00\x0c212101021010\x03\x00\x04\x00\x00\x27\x10",

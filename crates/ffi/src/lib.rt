@@ -6,6 +6,7 @@ ghost use mathlib.Core.Path.{_≡_};
 ghost use mathlib.Core.List.{[]};
 ghost use Rattle.table.specs.Refusal.{madeNumbers};
 ghost use Rattle.table.specs.Outcome.{whole, wholeOut};
+ghost use Rattle.table.specs.Same as comparing;
 ghost use Rattle.ternary.specs.Read as reading;
 ghost use Rattle.ternary.specs.Write as writing;
 ghost use Rattle.translation.specs.Translate as translating;
@@ -29,8 +30,8 @@ pub extern "C" fn lazvorn_read(
     ensures { λ _. ⌜ whole (now (answer .exit)) (now (table .exit)) (now (stack .exit))
         ≡ numbered (madeNumbers used) (reading.read (now (table .entry)) used (now (stack .entry)) (now (text .entry))) ⌝ }
 {
-    let read = reader::read(table, used, stack, text);
-    *answer = answers::made(used, read);
+    let made = read::read(table, used, stack, text);
+    *answer = answers::made(used, made);
 }
 
 // Writes a node's tree as text.
@@ -62,7 +63,7 @@ pub extern "C" fn lazvorn_translate(
     ensures { λ _. ⌜ whole (now (answer .exit)) (now (table .exit)) (now (stack .exit))
         ≡ numbered (madeNumbers used) (translating.translate (now (table .entry)) used (now (stack .entry)) (now (bytes .entry))) ⌝ }
 {
-    let translated = term::translate(table, used, stack, bytes);
+    let translated = translate::translate(table, used, stack, bytes);
     *answer = answers::made(used, translated);
 }
 
@@ -80,7 +81,7 @@ pub extern "C" fn lazvorn_apply(
     ensures { λ _. ⌜ whole (now (answer .exit)) (now (table .exit)) (now (stack .exit))
         ≡ counted (applying.appliedNumbers used) applying.appliedUses (applying.apply (now (table .entry)) used (now (stack .entry)) function argument limit) ⌝ }
 {
-    let outcome = machine::apply(table, used, stack, function, argument, limit);
+    let outcome = apply::apply(table, used, stack, function, argument, limit);
     *answer = counted::applied(used, outcome);
 }
 
@@ -96,7 +97,7 @@ pub extern "C" fn lazvorn_label(
     ensures { λ _. ⌜ whole (now (answer .exit)) (now (table .exit)) []
         ≡ numbered (madeNumbers used) (labelling.label (now (table .entry)) used rule label) ⌝ }
 {
-    let labelled = label::label(table, used, rule, label);
+    let labelled = label_node::label(table, used, rule, label);
     *answer = answers::made(used, labelled);
 }
 
@@ -150,4 +151,19 @@ pub extern "C" fn lazvorn_unlabel(table: &[u32], used: usize, node: usize, answe
 {
     let parts = unlabel::unlabel(table, used, node);
     *answer = answers::unlabelled(used, parts);
+}
+
+// Tells whether the nodes a and b have the same tree; the table is only read. The answer is two numbers: refusal, and 1 if the trees are equal.
+#[no_mangle]
+pub extern "C" fn lazvorn_same(
+    table: &[u32],
+    used: usize,
+    a: usize,
+    b: usize,
+    answer: &mut [usize; 2],
+)
+    ensures { λ _. ⌜ now (answer .exit) ≡ comparing.sameNumbers (comparing.same (now (table .entry)) used a b) ⌝ }
+{
+    let compared = same::same(table, used, a, b);
+    *answer = answers::compared(compared);
 }

@@ -5,7 +5,8 @@ use mathlib.Core.List.{List}
 use native.Mathlib.Omega.{arith}
 use Rattle.calculus.specs.Tree.{Tree, leaf, stem, fork}
 use Rattle.table.specs.Nodes.{first, second, treeAt}
-use Rattle.table.proofs.Words.{Unbroken, zero-one, sound-node}
+use Rattle.table.specs.Claims.{Unbroken}
+use Rattle.table.proofs.Words.{zero-one, sound-node}
 use Rattle.table.proofs.Trees.{tree-leaf, tree-stem, tree-fork}
 use Rattle.labelled.specs.Unlabel.{left, right}
 use Rattle.labelled.specs.Branches.{InUse, IsStem, IsFork}

@@ -1,98 +1,136 @@
-// The labelled rule of a packet, as text: the checks 1, 6, 5 and 4, and then Translate, Read of the label, Label, Write. Each stage is a function that
-// ends in the next one, as in the definition (the crate `labelling`), on a table that is sound throughout.
-use calculus::Uses;
+// The labelled rule of a packet, as text: the checks 1, 6, 5 and 4, and then the stages (the crate `label_stages`). The definition and its theorems are in
+// the crate `labelling`.
+//
+// The stages share one index of the table's nodes, which is empty at first, as the table is. It is in five sizes, so that a table pays for an index about as
+// long as it needs. The longest are met after the most tests: a compiler that takes a call behind many tests for a rare one gives its array a frame of its own,
+// which the shorter tables then do not touch.
 use checks::Checked;
 use packet::Form;
 use running::Ran;
-use table::Made;
 use table::Refusal;
 ghost use mathlib.Core.Path.{_≡_};
-ghost use Prim.Native.Nat.{_≤_, _<_};
+ghost use mathlib.Core.Bool.{true};
+ghost use Prim.Native.Nat.{ℕ, _≤_};
 ghost use lib.ListN.{length};
 ghost use Rattle.table.specs.Outcome.{wholeOut};
-ghost use Rattle.packet.specs.Code.{endAt, valueAt};
-ghost use Rattle.endings.specs.Ready.{Ready};
-ghost use Rattle.labelling.specs.LabelPacket.{labels, readsLabel, labelStages, labelPacket};
+ghost use Rattle.fields.specs.Packet as reading;
+ghost use Rattle.packet.specs.Code.{formOf};
+ghost use Rattle.running.specs.Run.{lengthsFit};
+ghost use Rattle.labelling.specs.LabelPacket.{labelPacket};
 
-// Labels the rule's node with the label's, and writes the labelled tree.
-fn write_labelled(
-    table: &mut [u32],
-    used: usize,
-    stack: &mut [u32],
-    out: &mut [u8],
-    rule: usize,
-    label: usize,
-) -> Ran
-    requires { ⌜ Ready (now table) used (now stack) (now out) × (rule < used) × (label < used) ⌝ }
-    ensures { λ r. ⌜ wholeOut r (now (table .exit)) (now (stack .exit)) (now (out .exit))
-        ≡ labels (now (table .entry)) used (now (stack .entry)) (now (out .entry)) rule label ⌝ }
-{
-    let made = label::label_rule(table, used, rule, label);
-    let Made::Node {
-        node,
-        used: used_then,
-    } = made
-    else {
-        return endings::stop(table, used, stack, endings::made_refusal(made));
-    };
-    let uses = Uses {
-        leaf: 0,
-        stem: 0,
-        drop: 0,
-        spread: 0,
-        triage: 0,
-    };
-    endings::write_outcome(table, used_then, stack, out, node, uses)
-}
-
-// Reads the label's text, the value of the field at a position of the packet.
-fn read_label(
-    table: &mut [u32],
-    used: usize,
-    stack: &mut [u32],
-    out: &mut [u8],
-    packet: &[u8],
-    at: usize,
-    rule: usize,
-) -> Ran
-    requires { ⌜ Ready (now table) used (now stack) (now out) × (rule < used) × (endAt (now packet) at ≤ length (now packet)) ⌝ }
-    ensures { λ r. ⌜ wholeOut r (now (table .exit)) (now (stack .exit)) (now (out .exit))
-        ≡ readsLabel (now (table .entry)) used (now (stack .entry)) (now (out .entry)) rule (valueAt (now (packet .entry)) at) ⌝ }
-{
-    let part = packet::part_at(packet, at);
-    let start = part.start;
-    let end = part.end;
-    let made = reader::read_text(table, used, stack, &packet[start..end]);
-    let Made::Node {
-        node,
-        used: used_then,
-    } = made
-    else {
-        return endings::stop(table, used, stack, endings::made_refusal(made));
-    };
-    write_labelled(table, used_then, stack, out, rule, node)
-}
-
-// The stages on a packet that passed the checks and whose label's field stands at a position.
-fn label_stages(
+// A whole packet that has a label, with a table of at most 64 nodes: 5 and 4, and then the stages.
+fn label_64(
     table: &mut [u32],
     stack: &mut [u32],
     out: &mut [u8],
     packet: &[u8],
-    at: usize,
+    count: usize,
+    size: usize,
 ) -> Ran
-    requires { ⌜ Ready (now table) 0 (now stack) (now out) × (endAt (now packet) 0 ≤ length (now packet)) × (endAt (now packet) at ≤ length (now packet)) ⌝ }
+    requires { ⌜ (length (now table) ≤ 128) × (lengthsFit (now table) (now stack) (now out) ≡ true)
+        × (size ≡ 0 → ⊥) × ((limit : ℕ) × (Form.Whole count limit size ≡ formOf (reading.packet (now packet)))) ⌝ }
     ensures { λ r. ⌜ wholeOut r (now (table .exit)) (now (stack .exit)) (now (out .exit))
-        ≡ labelStages (now (table .entry)) (now (stack .entry)) (now (out .entry)) (valueAt (now (packet .entry)) 0) (valueAt (now (packet .entry)) at) ⌝ }
+        ≡ labelPacket (now (table .entry)) (now (stack .entry)) (now (out .entry)) (now (packet .entry)) ⌝ }
 {
-    let part = packet::part_at(packet, 0);
-    let start = part.start;
-    let end = part.end;
-    let made = term::translate_rule(table, 0, stack, &packet[start..end]);
-    let Made::Node { node, used } = made else {
-        return endings::stop(table, 0, stack, endings::made_refusal(made));
-    };
-    read_label(table, used, stack, out, packet, at, node)
+    let checked = packet_checks::check_parts(packet, count, size);
+    if let Checked::Refused(refusal) = checked {
+        return Ran::Refused(refusal);
+    }
+    let at = packet.len() - size;
+    let mut index = [0u32; 192];
+    label_stages::label_stages(table, stack, out, packet, at, &mut index, 128)
+}
+
+// A whole packet that has a label, with a table of at most 256 nodes: 5 and 4, and then the stages.
+fn label_256(
+    table: &mut [u32],
+    stack: &mut [u32],
+    out: &mut [u8],
+    packet: &[u8],
+    count: usize,
+    size: usize,
+) -> Ran
+    requires { ⌜ (length (now table) ≤ 512) × (lengthsFit (now table) (now stack) (now out) ≡ true)
+        × (size ≡ 0 → ⊥) × ((limit : ℕ) × (Form.Whole count limit size ≡ formOf (reading.packet (now packet)))) ⌝ }
+    ensures { λ r. ⌜ wholeOut r (now (table .exit)) (now (stack .exit)) (now (out .exit))
+        ≡ labelPacket (now (table .entry)) (now (stack .entry)) (now (out .entry)) (now (packet .entry)) ⌝ }
+{
+    let checked = packet_checks::check_parts(packet, count, size);
+    if let Checked::Refused(refusal) = checked {
+        return Ran::Refused(refusal);
+    }
+    let at = packet.len() - size;
+    let mut index = [0u32; 768];
+    label_stages::label_stages(table, stack, out, packet, at, &mut index, 512)
+}
+
+// A whole packet that has a label, with a table of at most 1,024 nodes: 5 and 4, and then the stages.
+fn label_1024(
+    table: &mut [u32],
+    stack: &mut [u32],
+    out: &mut [u8],
+    packet: &[u8],
+    count: usize,
+    size: usize,
+) -> Ran
+    requires { ⌜ (length (now table) ≤ 2048) × (lengthsFit (now table) (now stack) (now out) ≡ true)
+        × (size ≡ 0 → ⊥) × ((limit : ℕ) × (Form.Whole count limit size ≡ formOf (reading.packet (now packet)))) ⌝ }
+    ensures { λ r. ⌜ wholeOut r (now (table .exit)) (now (stack .exit)) (now (out .exit))
+        ≡ labelPacket (now (table .entry)) (now (stack .entry)) (now (out .entry)) (now (packet .entry)) ⌝ }
+{
+    let checked = packet_checks::check_parts(packet, count, size);
+    if let Checked::Refused(refusal) = checked {
+        return Ran::Refused(refusal);
+    }
+    let at = packet.len() - size;
+    let mut index = [0u32; 3072];
+    label_stages::label_stages(table, stack, out, packet, at, &mut index, 2048)
+}
+
+// A whole packet that has a label, with a table of at most 8,192 nodes: 5 and 4, and then the stages.
+fn label_8192(
+    table: &mut [u32],
+    stack: &mut [u32],
+    out: &mut [u8],
+    packet: &[u8],
+    count: usize,
+    size: usize,
+) -> Ran
+    requires { ⌜ (length (now table) ≤ 16384) × (lengthsFit (now table) (now stack) (now out) ≡ true)
+        × (size ≡ 0 → ⊥) × ((limit : ℕ) × (Form.Whole count limit size ≡ formOf (reading.packet (now packet)))) ⌝ }
+    ensures { λ r. ⌜ wholeOut r (now (table .exit)) (now (stack .exit)) (now (out .exit))
+        ≡ labelPacket (now (table .entry)) (now (stack .entry)) (now (out .entry)) (now (packet .entry)) ⌝ }
+{
+    let checked = packet_checks::check_parts(packet, count, size);
+    if let Checked::Refused(refusal) = checked {
+        return Ran::Refused(refusal);
+    }
+    let at = packet.len() - size;
+    let mut index = [0u32; 24576];
+    label_stages::label_stages(table, stack, out, packet, at, &mut index, 16384)
+}
+
+// A whole packet that has a label, with a table of at most 65,536 nodes: 5 and 4, and then the stages.
+fn label_65536(
+    table: &mut [u32],
+    stack: &mut [u32],
+    out: &mut [u8],
+    packet: &[u8],
+    count: usize,
+    size: usize,
+) -> Ran
+    requires { ⌜ (length (now table) ≤ 131072) × (lengthsFit (now table) (now stack) (now out) ≡ true)
+        × (size ≡ 0 → ⊥) × ((limit : ℕ) × (Form.Whole count limit size ≡ formOf (reading.packet (now packet)))) ⌝ }
+    ensures { λ r. ⌜ wholeOut r (now (table .exit)) (now (stack .exit)) (now (out .exit))
+        ≡ labelPacket (now (table .entry)) (now (stack .entry)) (now (out .entry)) (now (packet .entry)) ⌝ }
+{
+    let checked = packet_checks::check_parts(packet, count, size);
+    if let Checked::Refused(refusal) = checked {
+        return Ran::Refused(refusal);
+    }
+    let at = packet.len() - size;
+    let mut index = [0u32; 196608];
+    label_stages::label_stages(table, stack, out, packet, at, &mut index, 131072)
 }
 
 // Writes the labelled rule of a packet, with the table taken as empty; arguments are passed over.
@@ -114,10 +152,18 @@ pub fn label_packet(table: &mut [u32], stack: &mut [u32], out: &mut [u8], packet
     if label_size == 0 {
         return Ran::Refused(Refusal::Packet);
     }
-    let checked = packet_checks::check_parts(packet, arguments, label_size);
-    if let Checked::Refused(refusal) = checked {
-        return Ran::Refused(refusal);
+    let n = table.len();
+    if n <= 128 {
+        return label_64(table, stack, out, packet, arguments, label_size);
     }
-    let at = packet.len() - label_size;
-    label_stages(table, stack, out, packet, at)
+    if n <= 512 {
+        return label_256(table, stack, out, packet, arguments, label_size);
+    }
+    if n <= 2048 {
+        return label_1024(table, stack, out, packet, arguments, label_size);
+    }
+    if n <= 16384 {
+        return label_8192(table, stack, out, packet, arguments, label_size);
+    }
+    label_65536(table, stack, out, packet, arguments, label_size)
 }

@@ -9,6 +9,7 @@ use Rattle.calculus.specs.Tree.{Tree}
 use Rattle.calculus.specs.Term.{Term}
 use Rattle.calculus.specs.Bytes.{rule}
 use Rattle.calculus.specs.Abstraction.{ruleTree}
+use Rattle.table.specs.Nodes.{Table}
 use Rattle.table.specs.Outcome.{Outcome, wholeOut}
 use Rattle.table.specs.Refusal.{number, refusedNumbers, clears}
 use Rattle.table.specs.declared.Refusal.{Refusal}
@@ -102,14 +103,14 @@ checking w s o l = go (checks w s o l)
 
 -- the stages stop with 8 to 10 alone
 pub stops-few : {w s o : List ℕ} {t : Term} {v : List ℕ} {x : Tree} {e : Refusal} {m : ℕ} → LabelStops w s o t v x e m → TooFew e
-stops-few (in-translate (translate-nodes h)) = few-nodes
-stops-few (in-translate (translate-frames h k)) = few-frames
+stops-few (in-translate (translate-frames h)) = few-frames
+stops-few (in-translate (translate-nodes h k)) = few-nodes
 stops-few (in-read h r) = go r
   where
-    go : {w s : List ℕ} {u : ℕ} {ls : List (List ℕ)} {e : Refusal} {m : ℕ} → ReadStops w s u ls e m → TooFew e
-    go (no-nodes h) = few-nodes
-    go (no-frames h k) = few-frames
-    go (later h k r) = go r
+    go : {s : List ℕ} {z : Table} {ls : List (List ℕ)} {e : Refusal} {m : ℕ} → ReadStops s z ls e m → TooFew e
+    go (no-frames h) = few-frames
+    go (no-nodes h k l) = few-nodes
+    go (later h k l r) = go r
 stops-few (in-label h r k) = few-nodes
 stops-few (in-write h r k q) = go q
   where

@@ -55,7 +55,14 @@ label-writes w s o l j u n k q = go (checking w s o l)
           written = rw out (take-at (text r) (drop n o) n (sym d));
           out-is = out;
           read-back = rw (out, take-at (text r) (drop n o) n (sym d)) (some-readable (record { short = omega (arith, c .checked .fit .out); tree-of = text-read r }));
-          used-is = sym b ∙ h .used-is;
+          placed = h .placed;
+          rule-laid = h .rule-laid;
+          read-table = h .read-table;
+          label-node = h .label-node;
+          label-read = h .label-read;
+          node = h .node;
+          nodes-are = rw (words, ← b) (h .nodes-are);
+          used-most = rw (← b) (h .used-most);
           stack = cc;
           same-length = ap length words ∙ h .extends .kept .same-length;
           beyond = λ i l. rw words (h .extends .beyond i (omega arith));

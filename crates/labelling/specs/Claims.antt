@@ -11,7 +11,7 @@ use Rattle.calculus.specs.Uses.{noUses}
 use Rattle.calculus.specs.Term.{Term}
 use Rattle.calculus.specs.Bytes.{rule}
 use Rattle.calculus.specs.Abstraction.{ruleTree}
-use Rattle.table.specs.Nodes.{capacity, Sound, cleared}
+use Rattle.table.specs.Nodes.{Table, Placed, got, capacity, Sound, cleared}
 use Rattle.table.specs.Outcome.{Outcome, wholeOut, frames, zeros}
 use Rattle.table.specs.declared.Refusal.{Refusal}
 use Rattle.table.specs.declared.Refusal.the-variants.{Limits, Rule, Nodes}
@@ -20,7 +20,8 @@ use Rattle.ternary.specs.Text.{text, treeOf}
 use Rattle.ternary.specs.Read.{readable}
 use Rattle.ternary.specs.Write.{lacks}
 use Rattle.ternary.specs.Held.{Spent}
-use Rattle.labelled.specs.Label.{labelled}
+use Rattle.labelled.specs.Label.{labelled, nodes}
+use Rattle.labelled.specs.Claims.{LabelLacking}
 use Rattle.fields.specs.Packet.{Packet, packet}
 use Rattle.running.specs.Run.{texts, ranNumbers, ranUses}
 use Rattle.running.specs.Claims.{Fit, Unreadable, Checked, TranslateStops, TranslateHad, ReadStops, ReadsHad, TooFew}
@@ -49,12 +50,12 @@ pub record Labelled (l : List ℕ) (p : Packet) : Type 0 where
 -- What the first stage that cannot go on lacks, and the m nodes that were made since the entry: "Translate, Read of the label, Label, Write". The stages
 -- before it had what they needed.
 pub data LabelStops (w s o : List ℕ) (t : Term) (v : List ℕ) (x : Tree) : Refusal → ℕ → Type 0 where
-  in-translate : {e : Refusal} → TranslateStops w s t e → LabelStops w s o t v x e 0
-  in-read : {e : Refusal} {m : ℕ} → TranslateHad w s t → ReadStops w s (size (ruleTree t)) (v ∷ []) e m → LabelStops w s o t v x e m
-  in-label : TranslateHad w s t → ReadsHad w s (size (ruleTree t)) (v ∷ []) → capacity w - (size (ruleTree t) + length v) < 8
-      → LabelStops w s o t v x Nodes (size (ruleTree t) + length v)
-  in-write : {e : Refusal} → TranslateHad w s t → ReadsHad w s (size (ruleTree t)) (v ∷ []) → size (ruleTree t) + length v + 8 ≤ capacity w
-      → Spent (frames s) 0 (labelled (ruleTree t) x) (length o) (lacks e) → LabelStops w s o t v x e (size (ruleTree t) + length v + 8)
+  in-translate : {e : Refusal} {m : ℕ} → TranslateStops w s t e m → LabelStops w s o t v x e m
+  in-read : {e : Refusal} {m : ℕ} {r : Placed} → TranslateHad w s t r → ReadStops s (r .table) (v ∷ []) e m → LabelStops w s o t v x e m
+  in-label : {r : Placed} {z y : Table} {n : ℕ} → TranslateHad w s t r → ReadsHad s (r .table) (v ∷ []) z (n ∷ []) → LabelLacking z (r .node) n y
+      → LabelStops w s o t v x Nodes (capacity w)
+  in-write : {e : Refusal} {r : Placed} {z : Table} {n : ℕ} {m : Placed} → TranslateHad w s t r → ReadsHad s (r .table) (v ∷ []) z (n ∷ [])
+      → nodes z (r .node) n ≡ got m → Spent (frames s) 0 (labelled (ruleTree t) x) (length o) (lacks e) → LabelStops w s o t v x e (m .table .used)
 
 -- What was not so where `label_packet` refuses with e, and the whole outcome q: 1, 6, 5 and 4 "leave lent memory as found". Then a stage stops with 8 to
 -- 10: the words of the m nodes made since the entry are 0 and all others as found, the stack is 0, and "the out bytes stay as at entry".
@@ -100,8 +101,16 @@ pub record LabelCompletes (w s o l : List ℕ) (u n : ℕ) : Type 0 where
   pub out-is : labelPacket w s o l .out ≡ text (labelled (ruleTree term) label) ++ drop n o
   -- Read takes it, given a table that passes 1 and 2, nodes and frames
   pub read-back : readable (take n (labelPacket w s o l .out)) ≡ some (labelled (ruleTree term) label)
-  -- the nodes in use: the rule's, one a digit of the label's text, and Label's eight
-  pub used-is : u ≡ size (ruleTree term) + length value + 8
+  -- the rule's node, the label's node and the table then; Label's nodes are made in it, and leave u nodes in use
+  pub placed : Placed
+  pub rule-laid : TranslateHad w s term placed
+  pub read-table : Table
+  pub label-node : ℕ
+  pub label-read : ReadsHad s (placed .table) (value ∷ []) read-table (label-node ∷ [])
+  pub node : ℕ
+  pub nodes-are : nodes read-table (placed .node) label-node ≡ got (record { table = record { words = labelPacket w s o l .table; used = u }; node = node })
+  -- at most the rule's nodes, one a digit of the label's text, and seven of Label's; no two are equal (`fine`)
+  pub used-most : u ≤ size (ruleTree term) + length value + 7
   -- "Success also sets the stack to 0, and no other table word than those of new nodes changes."
   pub stack : labelPacket w s o l .stack ≡ zeros s
   pub same-length : length (labelPacket w s o l .table) ≡ length w

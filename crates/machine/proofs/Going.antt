@@ -1,11 +1,16 @@
 -- Laws for each way that the loop over uses goes, over plain values. Assumes nothing.
 use Prim.Native.Nat.{ℕ, zero, suc, _+_, _-_, _≤_, _<_}
 use mathlib.Core.Path.{_≡_, sym, _∙_, subst}
+use mathlib.Core.List.{List}
 use native.Mathlib.Omega.{arith}
 use Rattle.calculus.specs.Uses.{steps}
 use Rattle.applying.specs.Machine.{State, Turn, more, turn, after, uses}
 use Rattle.applying.specs.States.{Good}
 use Rattle.applying.proofs.States.{Later, turn-later, Counted, turn-steps}
+use Rattle.frames.specs.declared.End.the-variants as ended
+use Rattle.frames.specs.declared.Turned.{Turned}
+use Rattle.index.specs.Index.{Ready}
+use Rattle.rules.specs.Code.{ReadyEnd, ReadyTurned}
 
 uses-turn : (all k : ℕ) (s : State) → 0 < k → uses all k s ≡ after (uses all (k - 1)) (turn all s)
 unfolding uses
@@ -45,3 +50,8 @@ module _ {all : ℕ} {begun : State} {budget : ℕ} {s : State} {taken : ℕ} (r
   pub going-out : budget ≤ taken → more s ≡ uses all budget begun
   unfolding uses
   going-out h = let q : budget - taken ≡ 0 = omega arith in rw q at (r .leads)
+
+-- a use that goes on leaves the table ready for the next
+pub ready-more : (r : Turned) (w : List ℕ) (s : ℕ) (ix : List ℕ) → r .end ≡ ended.More → ReadyTurned r w s ix → Ready w (r .state .used) s ix
+unfolding ReadyEnd
+ready-more r w s ix e h = rw e at h

@@ -1,32 +1,27 @@
--- Laws for each way that the code of Apply ends, over plain values. Assumes nothing.
+-- Laws for each way that the code of an application ends, over plain values. Assumes nothing.
 use Prim.Native.Nat.{ℕ, _*_, _≤_, _<_}
-use mathlib.Core.Path.{_≡_, sym, _∙_, subst}
+use mathlib.Core.Path.{_≡_, sym, ap, _∙_, subst}
 use mathlib.Core.List.{List}
 use native.Mathlib.Omega.{arith}
 use lib.ListN.{length}
-use lib.Dec.{leb}
-use borrow.Author.Tests.{lt-ltb, le-ltb, leb-true}
 use Rattle.calculus.specs.Uses.{steps}
 use Rattle.table.specs.Nodes.{Sound, cleared}
-use Rattle.table.specs.Outcome.{Entered, Outcome, whole, frames, zeros, atEntry, stopped}
-use Rattle.checks.specs.Code.{refusalOf}
-use Rattle.checks.specs.declared.Checked.{Checked}
-use Rattle.checks.specs.declared.Checked.the-variants as check
+use Rattle.table.specs.Outcome.{Outcome, whole, frames, zeros, stopped}
 use Rattle.table.specs.declared.Refusal.{Refusal}
 use Rattle.table.specs.declared.Refusal.the-variants.{Steps, Nodes, Frames}
-use Rattle.table.specs.declared.Refusal.the-variants as refusal
 use Rattle.table.proofs.Words.{zero-one, cleared-all}
-use Rattle.table.proofs.Entry.{entered, enters, check-refuses}
 use Rattle.applying.specs.declared.Applied.{Applied}
 use Rattle.applying.specs.declared.Applied.the-variants.{Node, Refused}
 use Rattle.frames.specs.declared.End.{End}
 use Rattle.frames.specs.declared.End.the-variants as ended
 use Rattle.frames.specs.declared.Turned.{Turned}
 use Rattle.applying.specs.Machine.{Turn, more, done, stop, uses}
-use Rattle.applying.specs.Apply.{settle, begin, applyNodes, apply}
+use Rattle.applying.specs.Apply.{settle, begin, applyNodes}
+use Rattle.rules.specs.Code.{ReadyEnd, ReadyTurned}
+use Rattle.machine.specs.Code.{ReadyApplied}
 use Rattle.frames.specs.Code.{usesOf, endOf, turnOf}
 use Rattle.applying.proofs.States.{Later, uses-later, Counted, uses-steps}
-use Rattle.applying.proofs.Cases.{sound-begin, entered-apply}
+use Rattle.applying.proofs.Cases.{sound-begin}
 
 -- Where an application ends: y and z are the words of table and stack that it leaves.
 module _ (u : ℕ) (w s y z : List ℕ) (x : Turned) (a : Applied) (stack : z ≡ cleared s 0 (length s)) where
@@ -54,6 +49,20 @@ module _ (u : ℕ) (w s y z : List ℕ) (x : Turned) (a : Applied) (stack : z �
     pub settle-frames : x .end ≡ ended.Frames → a ≡ Refused Frames → whole a y z ≡ settle u s (turnOf x w s)
     unfolding settle
     settle-frames e r = rw e (undone Frames r)
+
+-- where an application ends with a node, the table is ready as the uses left it
+pub settle-ready : (u : ℕ) (t : Turned) (y z : List ℕ) (a : Applied) (w s : List ℕ) (i : ℕ) (ix : List ℕ) → whole a w s ≡ settle u z (turnOf t y z) → ReadyTurned t y i ix → ReadyApplied a w i ix
+unfolding settle stopped ReadyEnd ReadyApplied
+settle-ready u t y z a w s i ix = go (t .end)
+  where
+    refused : {e : Refusal} → a ≡ Refused e → ReadyApplied a w i ix
+    refused q = rw q tt
+
+    go : (e : End) → whole a w s ≡ settle u z (endOf e (t .state) y z) → ReadyEnd e y (t .state .used) i ix → ReadyApplied a w i ix
+    go ended.More q h = refused (ap (λ (o : Outcome Applied). o .answer) q)
+    go ended.Done q h = rw (ap (λ (o : Outcome Applied). o .answer) q, ap (λ (o : Outcome Applied). o .table) q) h
+    go ended.Nodes q h = refused (ap (λ (o : Outcome Applied). o .answer) q)
+    go ended.Frames q h = refused (ap (λ (o : Outcome Applied). o .answer) q)
 
 -- the stack is cleared, so only its length matters
 same-zeros : (u : ℕ) (z s : List ℕ) → length z ≡ length s → (x : Turn) → settle u z x ≡ settle u s x
@@ -86,28 +95,3 @@ module _ {w : List ℕ} {u : ℕ} (s : List ℕ) {f n : ℕ} (fine : Sound (reco
   pub settled : (o : Outcome Applied) → length z ≡ length s → o ≡ settle u z (turnOf t y z) → o ≡ applyNodes w u s f n limit
   unfolding applyNodes
   settled o l r = r ∙ rw used (same-zeros u z s l (uses (frames s) limit (begin w u f n)))
-
--- Apply by the code's check: it refuses, one of the numbers is none of a node in use, or the application goes on
-module _ (w : List ℕ) (u : ℕ) (s : List ℕ) (f n limit : ℕ) {x : Checked} (p : refusalOf x ≡ atEntry (leb limit 1000000) w u s) where
-  pub refuse-entry : {e : Refusal} → x ≡ check.Refused e → whole (Refused e) w s ≡ apply w u s f n limit
-  unfolding apply
-  refuse-entry q = check-refuses (λ (e : Refusal). whole (Refused e) w s) _ (rw q at p)
-
-  module _ (passed : x ≡ check.Passed) where
-    pub passed-by : Entered (leb limit 1000000) w u s
-    passed-by = entered (leb limit 1000000) w u s (sym (rw passed at p))
-
-    pub within-limit : limit ≤ 1000000
-    within-limit = leb-true limit 1000000 (passed-by .limits-kept)
-
-    pub refuse-function : u ≤ f → whole (Refused refusal.Node) w s ≡ apply w u s f n limit
-    unfolding apply
-    refuse-function h = rw (enters passed-by, le-ltb f u h)
-
-    module _ (function-in : f < u) where
-      pub refuse-argument : u ≤ n → whole (Refused refusal.Node) w s ≡ apply w u s f n limit
-      unfolding apply
-      refuse-argument h = rw (enters passed-by, lt-ltb f u function-in, le-ltb n u h)
-
-      pub by-nodes : n < u → (o : Outcome Applied) → o ≡ applyNodes w u s f n limit → o ≡ apply w u s f n limit
-      by-nodes argument-in o r = r ∙ entered-apply limit passed-by function-in argument-in

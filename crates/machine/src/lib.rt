@@ -1,8 +1,7 @@
-// Apply: uses of the five rules up to a limit, and how they end. The definitions and the laws that callers cite are in the crate `applying`; one
-// use is in the crate `rules`.
+// Apply on a table that is known to be sound: uses of the five rules up to a limit, and how they end. The definitions and the laws that callers cite are in
+// the crate `applying`; one use is in the crate `rules`.
 use applying::Applied;
 use calculus::Uses;
-use checks::Checked;
 use frames::End;
 use frames::Machine;
 use frames::Turned;
@@ -11,22 +10,32 @@ ghost use mathlib.Core.Path.{_≡_};
 ghost use Prim.Native.Nat.{_+_, _*_, _≤_, _<_};
 ghost use lib.ListN.{length};
 ghost use Rattle.calculus.specs.Uses.{steps};
-ghost use Rattle.table.specs.Nodes.{Sound, cleared};
+ghost use Rattle.table.specs.Nodes.{cleared};
 ghost use Rattle.table.specs.Outcome.{whole, frames};
 ghost use Rattle.applying.specs.Machine.{uses};
-ghost use Rattle.applying.specs.Apply.{settle, applyNodes, apply};
+ghost use Rattle.applying.specs.Apply.{settle, applyNodes};
 ghost use Rattle.applying.specs.States.{Good};
 ghost use Rattle.frames.specs.Code.{usesOf, stateOf, turnOf};
+ghost use Rattle.index.specs.Index.{Ready};
+ghost use Rattle.rules.specs.Code.{ReadyTurned};
+ghost use Rattle.machine.specs.Code.{ReadyApplied};
 
 // At most `budget` uses of the rules; a further application is left where all of them were taken.
-fn uses(table: &mut [u32], stack: &mut [u32], begun: Machine, budget: usize) -> Turned
-    requires { ⌜ Good (frames (now stack)) (stateOf begun (now table) (now stack)) × (steps (usesOf begun) + budget ≤ 1000000) ⌝ }
-    ensures { λ r. ⌜ turnOf r (now (table .exit)) (now (stack .exit)) ≡ uses (frames (now (stack .entry))) budget (stateOf begun (now (table .entry)) (now (stack .entry))) ⌝ }
+fn uses(
+    table: &mut [u32],
+    stack: &mut [u32],
+    begun: Machine,
+    budget: usize,
+    index: &mut [u32],
+    slots: usize,
+) -> Turned
+    requires { ⌜ Good (frames (now stack)) (stateOf begun (now table) (now stack)) × (steps (usesOf begun) + budget ≤ 1000000) × Ready (now table) (begun .used) slots (now index) ⌝ }
+    ensures { λ r. ⌜ (turnOf r (now (table .exit)) (now (stack .exit)) ≡ uses (frames (now (stack .entry))) budget (stateOf begun (now (table .entry)) (now (stack .entry)))) × ReadyTurned r (now (table .exit)) slots (now (index .exit)) ⌝ }
 {
     let mut state = begun;
     let mut taken = 0;
     while taken < budget {
-        let turned = rules::turn(table, stack, state);
+        let turned = rules::turn(table, stack, state, index, slots);
         let end = turned.end;
         let End::More = end else {
             return turned;
@@ -78,7 +87,7 @@ fn settle(table: &mut [u32], stack: &mut [u32], used: usize, turned: Turned) -> 
     }
 }
 
-// Applies one node to another, both in use, in a table that is known to be sound.
+// Applies one node to another, both in use, in a table that is known to be sound and has its index.
 pub fn apply_nodes(
     table: &mut [u32],
     used: usize,
@@ -86,9 +95,11 @@ pub fn apply_nodes(
     function: usize,
     argument: usize,
     limit: usize,
+    index: &mut [u32],
+    slots: usize,
 ) -> Applied
-    requires { ⌜ Sound (record { words = now table; used = used }) × (function < used) × (argument < used) × (limit ≤ 1000000) ⌝ }
-    ensures { λ r. ⌜ whole r (now (table .exit)) (now (stack .exit)) ≡ applyNodes (now (table .entry)) used (now (stack .entry)) function argument limit ⌝ }
+    requires { ⌜ Ready (now table) used slots (now index) × (function < used) × (argument < used) × (limit ≤ 1000000) ⌝ }
+    ensures { λ r. ⌜ (whole r (now (table .exit)) (now (stack .exit)) ≡ applyNodes (now (table .entry)) used (now (stack .entry)) function argument limit) × ReadyApplied r (now (table .exit)) slots (now (index .exit)) ⌝ }
 {
     let begun = Machine {
         used: used,
@@ -101,30 +112,6 @@ pub fn apply_nodes(
         spread: 0,
         triage: 0,
     };
-    let turned = uses(table, stack, begun, limit);
+    let turned = uses(table, stack, begun, limit, index, slots);
     settle(table, stack, used, turned)
-}
-
-// Applies one node to another.
-pub fn apply(
-    table: &mut [u32],
-    used: usize,
-    stack: &mut [u32],
-    function: usize,
-    argument: usize,
-    limit: usize,
-) -> Applied
-    ensures { λ r. ⌜ whole r (now (table .exit)) (now (stack .exit)) ≡ apply (now (table .entry)) used (now (stack .entry)) function argument limit ⌝ }
-{
-    let checked = checks::check(limit <= 1000000, table, used, stack);
-    if let Checked::Refused(refusal) = checked {
-        return Applied::Refused(refusal);
-    }
-    if used <= function {
-        return Applied::Refused(Refusal::Node);
-    }
-    if used <= argument {
-        return Applied::Refused(Refusal::Node);
-    }
-    apply_nodes(table, used, stack, function, argument, limit)
 }

@@ -1,9 +1,9 @@
-// A lent table's and a lent stack's words in code: the one place that makes nodes and clears words. The definitions and the laws that callers
+// A lent table's and a lent stack's words in code: the one place that writes nodes and clears words. The definitions and the laws that callers
 // cite are in the crate `table`; specs/ says what the code's own values mean in their terms.
 ghost use mathlib.Core.Path.{_≡_};
 ghost use Prim.Native.Nat.{_+_, _*_, _≤_, _<_};
 ghost use lib.ListN.{length, getD};
-ghost use Rattle.table.specs.Nodes.{make, cleared};
+ghost use Rattle.table.specs.Nodes.{newNode, cleared};
 ghost use Rattle.nodes.specs.Code.{placedBy};
 
 // A node that was made, and the count of used nodes with it.
@@ -23,7 +23,7 @@ pub fn word(words: &[u32], i: usize) -> usize
 // The next node, with the branch words a and b.
 pub fn new_node(table: &mut [u32], used: usize, a: usize, b: usize) -> NewNode
     requires { ⌜ (used * 2 + 1 < length (now table)) × (a < 4294967296) × (b < 4294967296) ⌝ }
-    ensures { λ r. ⌜ placedBy r (now (table .exit)) ≡ make (record { words = now (table .entry); used = used }) a b ⌝ }
+    ensures { λ r. ⌜ placedBy r (now (table .exit)) ≡ newNode (record { words = now (table .entry); used = used }) a b ⌝ }
 {
     table[used * 2] = a as u32;
     table[used * 2 + 1] = b as u32;

@@ -1,177 +1,144 @@
--- Laws of laying out the tree of a text digit by digit, one for each way that its code goes. Assumes nothing.
+-- Laws of wanting the nodes of a text digit by digit, one for each way that its code goes. Assumes nothing.
 use Prim.Native.Nat.{ℕ, zero, suc, _+_, _-_, _*_, _≤_, _<_}
-use mathlib.Core.Path.{_≡_, refl, sym, ap, _∙_, subst}
+use mathlib.Core.Path.{_≡_, refl, sym, ap, _∙_}
 use mathlib.Core.Bool.{Bool, true, false, cond}
 use mathlib.Core.List.{List, [], _∷_}
 use mathlib.Core.Option.{Option, none, some}
 use native.Mathlib.Omega.{arith}
-use lib.ListN.{length, getD, set, drop, length-append, length-drop}
+use lib.ListN.{length, getD, set, take, drop, take-append-drop, length-set}
 use lib.Seq.{getD-set-same, getD-set-other, drop-cons, drop-length}
 use lib.Dec.{eqb}
-use borrow.Author.Tests.{eqb-true, eqb-false, eq-eqb, ne-eqb}
-use Rattle.calculus.specs.Tree.{Tree, leaf, stem, fork}
-use Rattle.table.specs.Nodes.{Table, Placed, make, lay}
-use Rattle.table.proofs.Making.{lay-used, lay-node}
-use Rattle.ternary.specs.Text.{text, takeLeaf, takeStem, takeFork, takeDigit, pending, manyPending, mostPending}
-use Rattle.ternary.specs.Text.{texts}
-use Rattle.reader.specs.Code.{layAll, nodesOf, Holds, LaidBy, TakesDigit, LaysText, laysAs}
+use borrow.Author.Tests.{eqb-true, eq-eqb, ne-eqb}
+use Rattle.calculus.specs.Tree.{Tree}
+use Rattle.table.specs.Nodes.{Table, Making, capacity, make}
+use Rattle.table.specs.Claims.{Unbroken}
 use Rattle.table.proofs.Words.{zero-one}
-use Rattle.ternary.proofs.OneText.{pending-texts, whole-pending, length-text}
+use Rattle.table.proofs.Making.{stem-words, fork-words}
+use Rattle.ternary.specs.Text.{takeLeaf, takeStem, takeFork, takeDigit, pending, manyPending, mostPending}
+use Rattle.ternary.specs.Laying.{awaits, no-place, keep, wantLeaf, wantStem, wantFork, layDigit, layDigits, HaveTrees, no-nodes, one-more}
+use Rattle.ternary.proofs.OneText.{whole-pending}
+use Rattle.ternary.proofs.Laying.{full-digits, digits-trees}
+use Rattle.index.specs.Index.{Ready}
+use Rattle.index.specs.Code.{gotBy, ReadyGot}
+use Rattle.index.specs.declared.Got.{Got}
+use Rattle.index.specs.declared.Got.the-variants.{Node, Full}
+use Rattle.index.proofs.Ready.{node-ready}
+use Rattle.reader.specs.Code.{nodesIn, TakesDigit, LaysText}
 
--- ---- what a digit that is taken finds and leaves
+-- ---- the nodes in frames
 
-pub taken-leaf : (c : ℕ) {ts us : List Tree} → c ≡ 48 → takeDigit c (some ts) ≡ some us → us ≡ leaf ∷ ts
-unfolding takeDigit takeLeaf
-taken-leaf c {ts} {us} e q = let r : some (leaf ∷ ts) ≡ some us = rw (eq-eqb c 48 e) at q in cc
+-- the last of them
+nodes-last : (s : List ℕ) (n : ℕ) → 1 ≤ n → nodesIn s n ≡ getD s ((n - 1) * 3) 0 ∷ nodesIn s (n - 1)
+unfolding nodesIn
+nodes-last s zero h = absurd (omega arith)
+nodes-last s (suc n) h = let q : suc n - 1 ≡ n = omega arith in rw q
 
--- the branches of a stem and of a fork
-pub record StemOf (ts us : List Tree) : Type 0 where
-  pub p : Tree
-  pub rest : List Tree
-  pub found : ts ≡ p ∷ rest
-  pub left : us ≡ stem p ∷ rest
+nodes-set : (s : List ℕ) (k v n : ℕ) → n ≤ k → nodesIn (set s (k * 3) v) n ≡ nodesIn s n
+unfolding nodesIn
+nodes-set s k v zero h = refl
+nodes-set s k v (suc n) h = rw (getD-set-other s (k * 3) (n * 3) v 0 (λ e. omega arith), nodes-set s k v n (omega arith))
 
-pub record ForkOf (ts us : List Tree) : Type 0 where
-  pub p : Tree
-  pub q : Tree
-  pub rest : List Tree
-  pub found : ts ≡ p ∷ (q ∷ rest)
-  pub left : us ≡ fork p q ∷ rest
+-- one more
+nodes-more : (s : List ℕ) (k v : ℕ) → k * 3 < length s → nodesIn (set s (k * 3) v) (k + 1) ≡ v ∷ nodesIn s k
+nodes-more s k v h =
+    let q : k + 1 - 1 ≡ k = omega arith in
+    nodes-last (set s (k * 3) v) (k + 1) (omega arith) ∙ rw (q, getD-set-same s (k * 3) v 0 h, nodes-set s k v k (omega arith))
 
-stem-of : (ts : List Tree) {us : List Tree} → takeStem ts ≡ some us → StemOf ts us
-unfolding takeStem
-stem-of [] e = zero-one (cc)
-stem-of (p ∷ ts) e = record { p = p; rest = ts; found = refl; left = cc }
+-- as many as the trees that they have, and in use
+have-length : {t : Table} (s : List ℕ) (n : ℕ) {ts : List Tree} → HaveTrees t (nodesIn s n) ts → length ts ≡ n
+unfolding nodesIn
+have-length s zero no-nodes = refl
+have-length s (suc n) (one-more h r) = ap suc (have-length s n r)
 
-fork-of : (ts : List Tree) {us : List Tree} → takeFork ts ≡ some us → ForkOf ts us
-unfolding takeFork
-fork-of [] e = zero-one (cc)
-fork-of (p ∷ []) e = zero-one (cc)
-fork-of (p ∷ (q ∷ ts)) e = record { p = p; q = q; rest = ts; found = refl; left = cc }
-
-pub taken-stem : (c : ℕ) {ts us : List Tree} → (c ≡ 48 → ⊥) → c ≡ 49 → takeDigit c (some ts) ≡ some us → StemOf ts us
-unfolding takeDigit
-taken-stem c {ts} a e q = stem-of ts (rw (ne-eqb c 48 a, eq-eqb c 49 e) at q)
-
-pub taken-fork : (c : ℕ) {ts us : List Tree} → (c ≡ 48 → ⊥) → (c ≡ 49 → ⊥) → takeDigit c (some ts) ≡ some us → ForkOf ts us
-unfolding takeDigit
-taken-fork c {ts} {us} a b q = go (eqb c 50) (rw (ne-eqb c 48 a, ne-eqb c 49 b) at q)
+have-inside : {t : Table} (s : List ℕ) (n : ℕ) {ts : List Tree} → HaveTrees t (nodesIn s n) ts → (k : ℕ) → k < n → getD s (k * 3) 0 < t .used
+unfolding nodesIn
+have-inside s zero h k l = absurd (omega arith)
+have-inside {t} s (suc n) (one-more h r) k l = go (eqb k n) refl (have-inside s n r k)
   where
-    go : (z : Bool) → cond z (takeFork ts) none ≡ some us → ForkOf ts us
-    go true e = fork-of ts e
-    go false e = zero-one (cc)
+    go : (z : Bool) → eqb k n ≡ z → (k < n → getD s (k * 3) 0 < t .used) → getD s (k * 3) 0 < t .used
+    go true e f = rw (eqb-true k n e) (h .inside)
+    go false e f = let q : (k ≡ n → ⊥) = borrow.Author.Tests.eqb-false k n e in f (omega arith)
 
--- ---- the frames that hold the nodes of the trees pending
+first-inside : {t : Table} {n : ℕ} {ns : List ℕ} {ts : List Tree} → HaveTrees t (n ∷ ns) ts → n < t .used
+first-inside (one-more h r) = h .inside
 
-pub length-nodes : (t : Table) (ts : List Tree) → length (nodesOf t ts) ≡ length ts
-unfolding nodesOf
-length-nodes t [] = refl
-length-nodes t (x ∷ xs) = ap suc (length-nodes t xs)
+-- ---- the node of a digit, and the branches that it takes
 
-holds-set : (s ns : List ℕ) (k v : ℕ) → length ns ≤ k → Holds s ns → Holds (set s (k * 3) v) ns
-unfolding Holds
-holds-set s [] k v h o = tt
-holds-set s (n ∷ ns) k v h o = (getD-set-other s (k * 3) (length ns * 3) v 0 (λ e. omega arith) ∙ o .0, holds-set s ns k v (omega arith) (o .1))
+nodes-two : (s : List ℕ) (n : ℕ) → 2 ≤ n → nodesIn s n ≡ getD s ((n - 1) * 3) 0 ∷ (getD s ((n - 2) * 3) 0 ∷ nodesIn s (n - 2))
+nodes-two s n h = let q : n - 1 - 1 ≡ n - 2 = omega arith in nodes-last s n (omega arith) ∙ rw (nodes-last s (n - 1) (omega arith), q)
 
--- the node of the last tree pending, and of the one before it
-module _ {t : Table} {w : List ℕ} {u : ℕ} {s : List ℕ} {held : ℕ} where
-  pub last-node : {x : Tree} {xs : List Tree} → LaidBy t (x ∷ xs) w u s held → getD s ((held - 1) * 3) 0 ≡ lay (layAll t xs) x .node
-  unfolding Holds nodesOf
-  last-node {x} {xs} l =
-      let e : length (nodesOf t xs) ≡ held - 1 = omega (arith, l .held-is, length-nodes t xs) in
-      ap (λ (k : ℕ). getD s (k * 3) 0) (sym e) ∙ l .holds .0
+fork-branches : (c held : ℕ) → c ≡ 50 → c - 48 ≤ held → (2 ≤ held) × (held - (c - 48) ≡ held - 2)
+fork-branches c held e h = (omega arith, omega arith)
 
-  pub next-node : {x y : Tree} {xs : List Tree} → LaidBy t (x ∷ (y ∷ xs)) w u s held → getD s ((held - 2) * 3) 0 ≡ lay (layAll t xs) y .node
-  unfolding Holds nodesOf
-  next-node {x} {y} {xs} l =
-      let e : length (nodesOf t xs) ≡ held - 2 = omega (arith, l .held-is, length-nodes t xs) in
-      ap (λ (k : ℕ). getD s (k * 3) 0) (sym e) ∙ l .holds .1 .0
+module _ (t : Table) (s : List ℕ) (held c : ℕ) where
+  pub leaf-wanted : c ≡ 48 → {g : Making} → g ≡ make t 0 0 → keep (nodesIn s (held - (c - 48))) g ≡ layDigit c (awaits t (nodesIn s held))
+  unfolding layDigit wantLeaf
+  leaf-wanted e p = let q : held - (c - 48) ≡ held = omega arith in rw (q, p, eq-eqb c 48 e)
 
-  pub last-below : {x : Tree} {xs : List Tree} → LaidBy t (x ∷ xs) w u s held → getD s ((held - 1) * 3) 0 + 1 ≡ u
-  unfolding layAll
-  last-below {x} {xs} l =
-      let a : u ≡ lay (layAll t xs) x .table .used = ap (λ (z : Table). z .used) (l .table-is) in
-      omega (arith, last-node l, lay-node (layAll t xs) x)
+  pub stem-wanted : (c ≡ 48 → ⊥) → c ≡ 49 → c - 48 ≤ held → {g : Making} {a : ℕ} → a ≡ getD s ((held - 1) * 3) 0 → g ≡ make t (a + 1) 0
+      → keep (nodesIn s (held - (c - 48))) g ≡ layDigit c (awaits t (nodesIn s held))
+  unfolding layDigit wantStem
+  stem-wanted n e h a p =
+      let q : held - (c - 48) ≡ held - 1 = omega arith in
+      rw (q, p, a, ne-eqb c 48 n, eq-eqb c 49 e, nodes-last s held (omega arith))
 
-  pub next-below : {x y : Tree} {xs : List Tree} → LaidBy t (x ∷ (y ∷ xs)) w u s held → getD s ((held - 2) * 3) 0 + 1 ≤ u
-  unfolding layAll
-  next-below {x} {y} {xs} l =
-      let a : u ≡ lay (lay (layAll t xs) y .table) x .table .used = ap (λ (z : Table). z .used) (l .table-is) in
-      omega (arith, next-node l, lay-node (layAll t xs) y, lay-used (lay (layAll t xs) y .table) x)
+  pub fork-wanted : (c ≡ 48 → ⊥) → (c ≡ 49 → ⊥) → TakesDigit (t .used) s held c → {g : Making} {a b : ℕ} → a ≡ getD s ((held - 1) * 3) 0 → b ≡ getD s ((held - 2) * 3) 0
+      → g ≡ make t (a + 1) (b + 1) → keep (nodesIn s (held - (c - 48))) g ≡ layDigit c (awaits t (nodesIn s held))
+  unfolding layDigit wantFork
+  fork-wanted n m x a b p =
+      let e : c ≡ 50 = omega (arith, x .from-leaf, x .to-fork) in
+      let k = fork-branches c held e (x .branches) in
+      rw (k .1, p, a, b, nodes-two s held (k .0), ne-eqb c 48 n, ne-eqb c 49 m, eq-eqb c 50 e)
 
--- ---- the state after a digit
+-- its words are those of nodes in use
+module _ {u : ℕ} {s : List ℕ} {held c : ℕ} (x : TakesDigit u s held c) where
+  pub stem-wants : (c ≡ 48 → ⊥) → {a : ℕ} → a ≡ getD s ((held - 1) * 3) 0 → Unbroken u (a + 1) 0
+  stem-wants n q = stem-words (omega (arith, x .in-use (held - 1) (omega (arith, x .from-leaf, x .branches))))
 
--- the tree x is placed after the trees xs, and its node is put into the frame after theirs
-laid-more : (t : Table) (x : Tree) (xs : List Tree) (s : List ℕ) {w : List ℕ} {u n at : ℕ} → at ≡ length xs → at * 3 < length s → Holds s (nodesOf t xs)
-    → _≡_ {A = Placed} (record { table = record { words = w; used = u }; node = n }) (lay (layAll t xs) x)
-    → LaidBy t (x ∷ xs) w u (set s (at * 3) n) (at + 1)
-unfolding Holds nodesOf layAll
-laid-more t x xs s {w} {u} {n} {at} e h o q =
-    let k : length (nodesOf t xs) ≡ at = length-nodes t xs ∙ sym e in
-    let m : n ≡ lay (layAll t xs) x .node = ap (λ (z : Placed). z .node) q in
-    record {
-      table-is = ap (λ (z : Placed). z .table) q;
-      held-is = omega arith;
-      holds = (ap (λ (j : ℕ). getD (set s (at * 3) n) (j * 3) 0) k ∙ getD-set-same s (at * 3) n 0 h ∙ m, holds-set s (nodesOf t xs) at n (omega arith) o);
-    }
-
-module _ {t : Table} {w : List ℕ} {u : ℕ} {s : List ℕ} {held : ℕ} {w′ : List ℕ} {u′ n : ℕ} where
-  pub laid-leaf : {ts : List Tree} → LaidBy t ts w u s held → held * 3 < length s
-      → _≡_ {A = Placed} (record { table = record { words = w′; used = u′ }; node = n }) (make (record { words = w; used = u }) 0 0)
-      → LaidBy t (leaf ∷ ts) w′ u′ (set s (held * 3) n) (held + 1)
-  unfolding lay
-  laid-leaf {ts} l h e = laid-more t leaf ts s (l .held-is) h (l .holds) (e ∙ ap (λ (z : Table). make z 0 0) (l .table-is))
-
-  pub laid-stem : {p : Tree} {xs : List Tree} → LaidBy t (p ∷ xs) w u s held → (held - 1) * 3 < length s
-      → _≡_ {A = Placed} (record { table = record { words = w′; used = u′ }; node = n }) (make (record { words = w; used = u }) (getD s ((held - 1) * 3) 0 + 1) 0)
-      → LaidBy t (stem p ∷ xs) w′ u′ (set s ((held - 1) * 3) n) (held - 1 + 1)
-  unfolding lay layAll Holds nodesOf
-  laid-stem {p} {xs} l h e =
-      laid-more t (stem p) xs s (omega (arith, l .held-is)) h (l .holds .1)
-      (e ∙ rw (last-node l) (ap (λ (z : Table). make z (lay (layAll t xs) p .node + 1) 0) (l .table-is)))
-
-  pub laid-fork : {p q : Tree} {xs : List Tree} → LaidBy t (p ∷ (q ∷ xs)) w u s held → (held - 2) * 3 < length s
-      → _≡_ {A = Placed} (record { table = record { words = w′; used = u′ }; node = n })
-      (make (record { words = w; used = u }) (getD s ((held - 1) * 3) 0 + 1) (getD s ((held - 2) * 3) 0 + 1))
-      → LaidBy t (fork p q ∷ xs) w′ u′ (set s ((held - 2) * 3) n) (held - 2 + 1)
-  unfolding lay layAll Holds nodesOf
-  laid-fork {p} {q} {xs} l h e =
-      laid-more t (fork p q) xs s (omega (arith, l .held-is)) h (l .holds .1 .1)
-      (e ∙ rw (last-node l, next-node l) (ap (λ (z : Table). make z (lay (lay (layAll t xs) q .table) p .node + 1) (lay (layAll t xs) q .node + 1)) (l .table-is)))
-
--- ---- what a digit needs
-
-module _ {w : List ℕ} {u : ℕ} {s : List ℕ} {held c : ℕ} (r : TakesDigit w u s held c) where
-  pub leaf-room : c ≡ 48 → held * 3 < length s
-  leaf-room e =
-      let n : length (r .after) ≡ length (leaf ∷ r .before) = ap length (taken-leaf c e (r .takes)) in
-      omega (arith, r .frame-free, r .laid .held-is)
-
-  -- the last tree pending is a branch
-  pub branch-room : (c ≡ 48 → ⊥) → (1 ≤ held) × ((held - 1) * 3 < length s) × (getD s ((held - 1) * 3) 0 + 1 ≡ u)
-  branch-room a = go (eqb c 49) refl
-    where
-      has : (x : Tree) (xs : List Tree) → r .before ≡ x ∷ xs → (1 ≤ held) × ((held - 1) * 3 < length s) × (getD s ((held - 1) * 3) 0 + 1 ≡ u)
-      has x xs q =
-          let n : length (r .before) ≡ suc (length xs) = ap length q in
-          (omega (arith, r .laid .held-is), omega (arith, r .laid .held-is, r .frames-held), last-below (subst (λ (l : List Tree). LaidBy (r .table) l w u s held) q (r .laid)))
-
-      go : (z : Bool) → eqb c 49 ≡ z → (1 ≤ held) × ((held - 1) * 3 < length s) × (getD s ((held - 1) * 3) 0 + 1 ≡ u)
-      go true e = let t = taken-stem c a (eqb-true c 49 e) (r .takes) in has (t .p) (t .rest) (t .found)
-      go false e = let t = taken-fork c a (eqb-false c 49 e) (r .takes) in has (t .p) (t .q ∷ t .rest) (t .found)
-
-  -- the tree pending before it is the second branch of a fork
-  pub fork-room : (c ≡ 48 → ⊥) → (c ≡ 49 → ⊥) → (2 ≤ held) × ((held - 2) * 3 < length s) × (getD s ((held - 2) * 3) 0 + 1 ≤ u)
-  fork-room a b =
-      let t = taken-fork c a b (r .takes) in
-      let n : length (r .before) ≡ suc (suc (length (t .rest))) = ap length (t .found) in
-      (omega (arith, r .laid .held-is), omega (arith, r .laid .held-is, r .frames-held), next-below (subst (λ (l : List Tree). LaidBy (r .table) l w u s held) (t .found) (r .laid)))
-
--- the same state by other names
-pub laid-as : {t : Table} {ts us : List Tree} {w : List ℕ} {u v : ℕ} {s z : List ℕ} {h k : ℕ} → LaidBy t ts w u s h → us ≡ ts → v ≡ u → k ≡ h → z ≡ s → LaidBy t us w v z k
-laid-as l a b c d = rw (a, b, c, d) l
+  pub fork-wants : (c ≡ 48 → ⊥) → (c ≡ 49 → ⊥) → {a b : ℕ} → a ≡ getD s ((held - 1) * 3) 0 → b ≡ getD s ((held - 2) * 3) 0 → Unbroken u (a + 1) (b + 1)
+  fork-wants n m p q =
+      fork-words (omega (arith, x .in-use (held - 1) (omega (arith, x .from-leaf, x .branches))))
+      (omega (arith, x .in-use (held - 2) (omega (arith, x .from-leaf, x .branches))))
 
 -- ---- a whole text
+
+-- what a digit that is taken finds and leaves
+record Takes (c : ℕ) (ts us : List Tree) : Type 0 where
+  pub from-leaf : 48 ≤ c
+  pub to-fork : c ≤ 50
+  pub branches : c - 48 ≤ length ts
+  pub leaves : length us ≡ length ts - (c - 48) + 1
+
+takes-stem : (c : ℕ) → c ≡ 49 → (ts : List Tree) {us : List Tree} → takeStem ts ≡ some us → Takes c ts us
+unfolding takeStem
+takes-stem c e [] q = zero-one (cc)
+takes-stem c e (p ∷ ts) {us} q =
+    let n : length us ≡ suc (length ts) = let r : Rattle.calculus.specs.Tree.stem p ∷ ts ≡ us = cc in sym (ap length r) in
+    record { from-leaf = omega arith; to-fork = omega arith; branches = omega arith; leaves = omega arith }
+
+takes-fork : (c : ℕ) → c ≡ 50 → (ts : List Tree) {us : List Tree} → takeFork ts ≡ some us → Takes c ts us
+unfolding takeFork
+takes-fork c e [] q = zero-one (cc)
+takes-fork c e (p ∷ []) q = zero-one (cc)
+takes-fork c e (p ∷ (o ∷ ts)) {us} q =
+    let n : length us ≡ suc (length ts) = let r : Rattle.calculus.specs.Tree.fork p o ∷ ts ≡ us = cc in sym (ap length r) in
+    record { from-leaf = omega arith; to-fork = omega arith; branches = omega arith; leaves = omega arith }
+
+takes-leaf : (c : ℕ) → c ≡ 48 → (ts : List Tree) {us : List Tree} → takeLeaf ts ≡ some us → Takes c ts us
+unfolding takeLeaf
+takes-leaf c e ts {us} q =
+    let n : length us ≡ suc (length ts) = let r : Rattle.calculus.specs.Tree.leaf ∷ ts ≡ us = cc in sym (ap length r) in
+    record { from-leaf = omega arith; to-fork = omega arith; branches = omega arith; leaves = omega arith }
+
+takes : (c : ℕ) (ts : List Tree) {us : List Tree} → takeDigit c (some ts) ≡ some us → Takes c ts us
+unfolding takeDigit
+takes c ts {us} = go (eqb c 48) (eqb c 49) (eqb c 50) refl refl refl
+  where
+    go : (x y z : Bool) → eqb c 48 ≡ x → eqb c 49 ≡ y → eqb c 50 ≡ z → cond x (takeLeaf ts) (cond y (takeStem ts) (cond z (takeFork ts) none)) ≡ some us → Takes c ts us
+    go true y z p q r e = takes-leaf c (eqb-true c 48 p) ts e
+    go false true z p q r e = takes-stem c (eqb-true c 49 q) ts e
+    go false false true p q r e = takes-fork c (eqb-true c 50 r) ts e
+    go false false false p q r e = zero-one (cc)
 
 -- the digits from index i - 1 on, and those after it
 drop-more : (l : List ℕ) (i : ℕ) → 0 < i → i ≤ length l → drop (i - 1) l ≡ getD l (i - 1) 0 ∷ drop i l
@@ -185,7 +152,7 @@ pending-none [] (suc i) h e = e
 pending-none (c ∷ l) (suc i) h e = rw (pending-none l i (omega arith) e)
 
 -- every end of a whole text leaves trees pending, and no more than the most
-pub pending-drop : (l : List ℕ) (i : ℕ) {ts : List Tree} → i ≤ length l → pending l ≡ some ts → (us : List Tree) × (pending (drop i l) ≡ some us)
+pending-drop : (l : List ℕ) (i : ℕ) {ts : List Tree} → i ≤ length l → pending l ≡ some ts → (us : List Tree) × (pending (drop i l) ≡ some us)
 pending-drop l i {ts} h e = go (pending (drop i l)) refl
   where
     go : (o : Option (List Tree)) → pending (drop i l) ≡ o → (us : List Tree) × (pending (drop i l) ≡ some us)
@@ -196,86 +163,122 @@ none-pending : {ts : List Tree} → pending [] ≡ some ts → length ts ≤ 0
 unfolding pending
 none-pending {ts} e = let q : [] ≡ ts = cc in rw (← q) (omega arith)
 
-pub pending-most : (l : List ℕ) (i : ℕ) {ts : List Tree} → pending (drop i l) ≡ some ts → length ts ≤ mostPending l
+pending-most : (l : List ℕ) (i : ℕ) {ts : List Tree} → pending (drop i l) ≡ some ts → length ts ≤ mostPending l
 unfolding mostPending manyPending
 pending-most [] zero e = none-pending e
 pending-most [] (suc i) e = none-pending e
 pending-most (c ∷ l) zero {ts} e = let k : manyPending (pending (c ∷ l)) ≡ length ts = ap manyPending e in omega arith
 pending-most (c ∷ l) (suc i) e = omega (arith, pending-most l i e)
 
--- each digit makes one node
-layAll-used : (t : Table) (ts : List Tree) → layAll t ts .used ≡ t .used + length (texts ts)
-unfolding layAll texts
-layAll-used t [] = omega arith
-layAll-used t (x ∷ xs) = omega (arith, lay-used (layAll t xs) x, layAll-used t xs, length-append (text x) (texts xs), length-text x)
-
--- the state before digit i: the digits from i on are laid out, in a table and a stack as long as at the start
-pub record LaidTo (t : Table) (l s₀ : List ℕ) (i : ℕ) (w : List ℕ) (u : ℕ) (s : List ℕ) (held : ℕ) : Type 0 where
+-- The state before digit i: the digits from i on are taken from the table t on, and their nodes are pending, in a table, a stack and an index as long as
+-- at the start.
+pub record LaidTo (t : Table) (l s₀ ix₀ : List ℕ) (slots i : ℕ) (w : List ℕ) (u : ℕ) (s : List ℕ) (held : ℕ) (ix : List ℕ) : Type 0 where
   pub inside : i ≤ length l
-  pub trees : List Tree
-  pub pends : pending (drop i l) ≡ some trees
-  pub laid : LaidBy t trees w u s held
+  pub laid : layDigits t (drop i l) ≡ awaits (record { words = w; used = u }) (nodesIn s held)
+  pub ready : Ready w u slots ix
   pub same-words : length w ≡ length (t .words)
   pub same-stack : length s ≡ length s₀
+  pub same-index : length ix ≡ length ix₀
 
-pub laid-none : (w : List ℕ) (u : ℕ) (l s : List ℕ) → LaidTo (record { words = w; used = u }) l s (length l) w u s 0
-unfolding pending layAll nodesOf Holds
-laid-none w u l s =
-    record {
-      inside = omega arith;
-      trees = [];
-      pends = rw (drop-length l);
-      laid = record { table-is = refl; held-is = refl; holds = tt };
-      same-words = refl;
-      same-stack = refl;
-    }
+module _ {w₀ : List ℕ} {u₀ slots : ℕ} {ix₀ s₀ l : List ℕ} where
+  pub laid-none : Ready w₀ u₀ slots ix₀ → LaidTo (record { words = w₀; used = u₀ }) l s₀ ix₀ slots (length l) w₀ u₀ s₀ 0 ix₀
+  unfolding layDigits nodesIn
+  laid-none r = record { inside = omega arith; laid = rw (drop-length l); ready = r; same-words = refl; same-stack = refl; same-index = refl }
 
-pub laid-count : {t : Table} {l s₀ : List ℕ} {i : ℕ} {w : List ℕ} {u : ℕ} {s : List ℕ} {held : ℕ} → LaidTo t l s₀ i w u s held → u + i ≡ t .used + length l
-laid-count {t} {l} {i = i} x =
-    let a : _ ≡ layAll t (x .trees) .used = ap (λ (z : Table). z .used) (x .laid .table-is) in
-    omega (arith, layAll-used t (x .trees), ap length (pending-texts (drop i l) (x .pends)), length-drop i l, x .inside)
+  module _ (r : Ready w₀ u₀ slots ix₀) (y : LaysText s₀ l) {i : ℕ} {w : List ℕ} {u : ℕ} {s : List ℕ} {held : ℕ} {ix : List ℕ}
+      (x : LaidTo (record { words = w₀; used = u₀ }) l s₀ ix₀ slots i w u s held ix) where
+    t₀ : Table
+    t₀ = record { words = w₀; used = u₀ }
 
-module _ {w₀ : List ℕ} {u₀ : ℕ} {s₀ l : List ℕ} (r : LaysText w₀ u₀ s₀ l) where
-  module _ {i : ℕ} {w : List ℕ} {u : ℕ} {s : List ℕ} {held : ℕ} (x : LaidTo (record { words = w₀; used = u₀ }) l s₀ i w u s held) (h : 0 < i) where
-    -- the trees pending after the next digit
-    next-trees : (us : List Tree) × (pending (drop (i - 1) l) ≡ some us)
-    next-trees = pending-drop l (i - 1) (omega (arith, x .inside)) (whole-pending l (r .tree-of))
+    -- the trees of the nodes pending
+    trees : (ts : List Tree) × ((pending (drop i l) ≡ some ts) × HaveTrees (record { words = w; used = u }) (nodesIn s held) ts)
+    unfolding t₀
+    trees = let a = digits-trees (r .fine) (drop i l) (x .laid) in (a .0, (a .1 .0, a .1 .1 .trees))
 
-    next-takes : takeDigit (getD l (i - 1) 0) (some (x .trees)) ≡ some (next-trees .0)
-    unfolding pending
-    next-takes = rw (← x .pends) (ap pending (sym (drop-more l i h (x .inside))) ∙ next-trees .1)
+    many : length (trees .0) ≡ held
+    many = have-length s held (trees .1 .1)
 
-    pub takes-digit : TakesDigit w u s held (getD l (i - 1) 0)
-    takes-digit =
-        record {
-          table = record { words = w₀; used = u₀ };
-          before = x .trees;
-          after = next-trees .0;
-          laid = x .laid;
-          takes = next-takes;
-          node-free = omega (arith, r .nodes-free, laid-count x, x .same-words);
-          short = omega (arith, r .short, x .same-words);
-          frames-held = omega (arith, r .frames-free, x .same-stack, x .laid .held-is, pending-most l i (x .pends));
-          frame-free = omega (arith, r .frames-free, x .same-stack, pending-most l (i - 1) (next-trees .1));
-        }
+    -- all of them have frames
+    pub held-frames : held * 3 ≤ length s
+    held-frames = omega (arith, y .frames-free, x .same-stack, many, pending-most l i (trees .1 .0))
 
-    pub laid-next : {w′ : List ℕ} {u′ : ℕ} {s′ : List ℕ} {held′ : ℕ} → length w′ ≡ length w → length s′ ≡ length s
-        → ((t : Table) (ts us : List Tree) → LaidBy t ts w u s held → takeDigit (getD l (i - 1) 0) (some ts) ≡ some us → LaidBy t us w′ u′ s′ held′)
-        → LaidTo (record { words = w₀; used = u₀ }) l s₀ (i - 1) w′ u′ s′ held′
-    laid-next a b f =
-        record {
-          inside = omega (arith, x .inside);
-          trees = next-trees .0;
-          pends = next-trees .1;
-          laid = f (record { words = w₀; used = u₀ }) (x .trees) (next-trees .0) (x .laid) next-takes;
-          same-words = a ∙ x .same-words;
-          same-stack = b ∙ x .same-stack;
-        }
+    -- the next digit
+    module _ (h : 0 < i) where
+      next-trees : (us : List Tree) × (pending (drop (i - 1) l) ≡ some us)
+      next-trees = pending-drop l (i - 1) (omega (arith, x .inside)) (whole-pending l (y .tree-of))
 
-pub laid-all : {w₀ : List ℕ} {u₀ : ℕ} {s₀ l : List ℕ} {i : ℕ} {w : List ℕ} {u : ℕ} {s : List ℕ} {held : ℕ}
-    → LaidTo (record { words = w₀; used = u₀ }) l s₀ i w u s held → i ≤ 0 → laysAs w₀ u₀ l w u
-unfolding laysAs layAll
-laid-all {l = l} {i = zero} x h = λ t e.
-    let q : x .trees ≡ t ∷ [] = cc (x .pends, whole-pending l e) in
-    x .laid .table-is ∙ rw q
-laid-all {i = suc i} x h = absurd (omega arith)
+      next-takes : Takes (getD l (i - 1) 0) (trees .0) (next-trees .0)
+      unfolding pending
+      next-takes = takes (getD l (i - 1) 0) (trees .0) (rw (← trees .1 .0) (ap pending (sym (drop-more l i h (x .inside))) ∙ next-trees .1))
+
+      pub takes-digit : TakesDigit u s held (getD l (i - 1) 0)
+      takes-digit =
+          record {
+            from-leaf = next-takes .from-leaf;
+            to-fork = next-takes .to-fork;
+            branches = omega (arith, next-takes .branches, many);
+            frames-held = held-frames;
+            in-use = have-inside s held (trees .1 .1);
+          }
+
+      -- its frame
+      pub digit-frame : (held - (getD l (i - 1) 0 - 48)) * 3 < length s
+      digit-frame = omega (arith, y .frames-free, x .same-stack, many, next-takes .leaves, pending-most l (i - 1) (next-trees .1))
+
+      -- what its node leaves pending
+      module _ (g : Got) (w′ ix′ : List ℕ)
+          (e : keep (nodesIn s (held - (getD l (i - 1) 0 - 48))) (gotBy g w′) ≡ layDigit (getD l (i - 1) 0) (awaits (record { words = w; used = u }) (nodesIn s held)))
+          (f : ReadyGot g w′ slots ix′) where
+        next-laid : layDigits t₀ (drop (i - 1) l) ≡ keep (nodesIn s (held - (getD l (i - 1) 0 - 48))) (gotBy g w′)
+        unfolding layDigits t₀
+        next-laid = ap (layDigits t₀) (drop-more l i h (x .inside)) ∙ ap (layDigit (getD l (i - 1) 0)) (x .laid) ∙ sym e
+
+        pub none-laid : g ≡ Full → (keep [] (gotBy Full w′) ≡ layDigits (record { words = w₀; used = u₀ }) l) × ReadyGot Full w′ slots ix′
+        unfolding keep gotBy ReadyGot t₀
+        none-laid q =
+            let p : layDigits t₀ (drop (i - 1) l) ≡ no-place (record { words = w′; used = capacity w′ }) = next-laid ∙ rw q in
+            (sym (ap (layDigits t₀) (sym (take-append-drop (i - 1) l)) ∙ full-digits t₀ (take (i - 1) l) (drop (i - 1) l) p), tt)
+
+        module _ {n u′ : ℕ} (q : g ≡ Node n u′) where
+          node-laid : layDigits t₀ (drop (i - 1) l) ≡ awaits (record { words = w′; used = u′ }) (n ∷ nodesIn s (held - (getD l (i - 1) 0 - 48)))
+          unfolding keep gotBy
+          node-laid = next-laid ∙ rw q
+
+          pub node-small : n < 4294967296
+          unfolding t₀
+          node-small =
+              let k = node-ready f q in
+              let a = digits-trees (r .fine) (drop (i - 1) l) node-laid in
+              omega (arith, first-inside (a .1 .1 .trees), k .fine .within, k .fine .short)
+
+          pub laid-next : length w′ ≡ length w → length ix′ ≡ length ix
+              → LaidTo (record { words = w₀; used = u₀ }) l s₀ ix₀ slots (i - 1) w′ u′ (set s ((held - (getD l (i - 1) 0 - 48)) * 3) n) (held - (getD l (i - 1) 0 - 48) + 1) ix′
+          unfolding t₀
+          laid-next a b =
+              record {
+                inside = omega (arith, x .inside);
+                laid = node-laid ∙ ap (awaits (record { words = w′; used = u′ })) (sym (nodes-more s (held - (getD l (i - 1) 0 - 48)) n digit-frame));
+                ready = node-ready f q;
+                same-words = a ∙ x .same-words;
+                same-stack = length-set s _ n ∙ x .same-stack;
+                same-index = b ∙ x .same-index;
+              }
+
+    -- all digits are taken: one node is pending
+    module _ (h : i ≤ 0) where
+      one-held : held ≡ 1
+      one-held =
+          let q : i ≡ 0 = omega arith in
+          let p : pending l ≡ some (trees .0) = ap (λ (j : ℕ). pending (drop j l)) (sym q) ∙ trees .1 .0 in
+          let e : trees .0 ≡ y .tree ∷ [] = cc (p, whole-pending l (y .tree-of)) in
+          omega (arith, many, ap length e)
+
+      pub one-frame : 0 < length s
+      one-frame = omega (arith, one-held, held-frames)
+
+      pub all-laid : {v : ℕ} → v ≡ getD s 0 0 → (keep [] (gotBy (Node v u) w) ≡ layDigits (record { words = w₀; used = u₀ }) l) × ReadyGot (Node v u) w slots ix
+      unfolding keep gotBy ReadyGot nodesIn
+      all-laid e =
+          let q : i ≡ 0 = omega arith in
+          let p : layDigits (record { words = w₀; used = u₀ }) l ≡ awaits (record { words = w; used = u }) (nodesIn s 1) = rw (q, one-held) at (x .laid) in
+          (rw e (sym p), x .ready)

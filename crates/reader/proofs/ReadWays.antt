@@ -1,37 +1,47 @@
 -- Laws of Read's outcome and of the test of a text, one for each way that their code goes. Assumes nothing.
-use Prim.Native.Nat.{ℕ, _-_, _≤_, _<_}
+use Prim.Native.Nat.{ℕ, _≤_, _<_}
 use mathlib.Core.Path.{_≡_, ap, _∙_}
 use mathlib.Core.Bool.{true, false}
-use mathlib.Core.List.{List}
+use mathlib.Core.List.{List, []}
 use native.Mathlib.Omega.{arith}
 use lib.ListN.{length}
 use borrow.Author.Tests.{lt-leb, le-leb}
 use Rattle.calculus.specs.Tree.{Tree}
-use Rattle.table.specs.Nodes.{Table, Sound, cleared, lay}
-use Rattle.table.specs.Outcome.{whole, placed, laid, laidWithin}
+use Rattle.table.specs.Nodes.{Making, got, full}
+use Rattle.table.specs.Outcome.{whole, placed, stopped, settled, laid, laidWithin}
 use Rattle.table.specs.declared.Refusal.{Refusal}
 use Rattle.table.specs.declared.Refusal.the-variants.{Text}
-use Rattle.table.specs.declared.Made.the-variants.{Node, Refused}
-use Rattle.table.proofs.Words.{cleared-zeros}
-use Rattle.table.proofs.Making.{lay-node, lay-used, size-pos}
+use Rattle.table.specs.declared.Made.{Made}
+use Rattle.table.specs.declared.Made.the-variants.{Refused}
 use Rattle.checks.specs.declared.Checked.{Checked}
 use Rattle.checks.specs.declared.Checked.the-variants as checked
-use Rattle.checks.specs.Code.{checkedWith, roomFor}
-use Rattle.checks.proofs.Room.{Enough, no-room, has-room}
+use Rattle.checks.specs.Code.{checkedWith, framesFor}
+use Rattle.checks.proofs.Room.{has-room, refused-within, laid-within}
+use Rattle.ternary.specs.Laying.{keep, layDigits}
 use Rattle.ternary.specs.Read.{readable, isSome, readTree}
+use Rattle.ternary.proofs.Laying.{digits-whole}
+use Rattle.index.specs.Code.{gotBy, ReadyGot, ReadyMade}
+use Rattle.index.specs.declared.Got.{Got}
+use Rattle.index.proofs.Ready.{settled-ready}
 use Rattle.whole_text.specs.declared.Scanned.the-variants.{Whole, Broken}
 use Rattle.whole_text.specs.Code.{ScanSays}
-use Rattle.reader.specs.Code.{LaysText, laysAs}
+use Rattle.reader.specs.Code.{LaysText}
 
-module _ (w : List ℕ) (u : ℕ) (s l : List ℕ) where
-  pub too-long : 65535 < length l → whole (Refused Text) w s ≡ readTree w u s l (readable l)
-  unfolding readable readTree
-  too-long h = rw (lt-leb (length l) 65535 h)
+-- what is settled depends on the length of the stack alone
+settled-same : (u : ℕ) (y s : List ℕ) (x : Making) → length y ≡ length s → settled u y x ≡ settled u s x
+unfolding settled placed stopped
+settled-same u y s (got m) e = rw e
+settled-same u y s (full t) e = rw e
+
+module _ (w : List ℕ) (u : ℕ) (s l : List ℕ) (slots : ℕ) (ix : List ℕ) where
+  pub too-long : 65535 < length l → (whole (Refused Text) w s ≡ readTree w u s l (readable l)) × ReadyMade (Refused Text) w slots ix
+  unfolding readable readTree ReadyMade
+  too-long h = (rw (lt-leb (length l) 65535 h), tt)
 
   module _ (h : length l ≤ 65535) where
-    pub no-tree : ScanSays l Broken → whole (Refused Text) w s ≡ readTree w u s l (readable l)
-    unfolding readable readTree ScanSays
-    no-tree e = rw (le-leb (length l) 65535 h, e)
+    pub no-tree : ScanSays l Broken → (whole (Refused Text) w s ≡ readTree w u s l (readable l)) × ReadyMade (Refused Text) w slots ix
+    unfolding readable readTree ReadyMade ScanSays
+    no-tree e = (rw (le-leb (length l) 65535 h, e), tt)
 
     -- a whole text
     module _ (m : ℕ) (q : ScanSays l (Whole m)) where
@@ -39,49 +49,32 @@ module _ (w : List ℕ) (u : ℕ) (s l : List ℕ) where
       unfolding ScanSays
       tree = q .0
 
-      is-tree : laidWithin w u s (length l) m tree ≡ readTree w u s l (readable l)
+      is-tree : laidWithin w u s m tree ≡ readTree w u s l (readable l)
       unfolding readable readTree ScanSays tree
-      is-tree = ap (λ (n : ℕ). laidWithin w u s (length l) n tree) (q .2) ∙ rw (le-leb (length l) 65535 h, q .1)
+      is-tree = ap (λ (n : ℕ). laidWithin w u s n tree) (q .2) ∙ rw (le-leb (length l) 65535 h, q .1)
 
-      -- what the check for room said, and the stack that it left
-      module _ {r : Checked} {z : List ℕ} (e : checkedWith r z ≡ roomFor w u s (length l) m) where
-        pub no-place : {c : Refusal} → r ≡ checked.Refused c → whole (Refused c) w z ≡ readTree w u s l (readable l)
-        no-place p = no-room w u s (length l) m e p tree ∙ is-tree
+      -- what the check for frames said, and the stack that it left
+      module _ {r : Checked} {z : List ℕ} (e : checkedWith r z ≡ framesFor s m) where
+        pub no-frames : {c : Refusal} → r ≡ checked.Refused c → (whole (Refused c) w z ≡ readTree w u s l (readable l)) × ReadyMade (Refused c) w slots ix
+        unfolding ReadyMade
+        no-frames p = (refused-within s m e w u tree p ∙ is-tree, tt)
 
         module _ (p : r ≡ checked.Passed) where
-          enough : Enough w u s (length l) m tree z
-          enough = has-room w u s (length l) m e p tree
+          pub lays-text : LaysText z l
+          unfolding ScanSays
+          lays-text = let n = has-room s m e p in record { tree = q .0; tree-of = q .1; frames-free = rw (n .same) (omega (arith, q .2, n .frames-free)) }
 
-          pub lays-text : Sound (record { words = w; used = u }) → LaysText w u z l
-          unfolding ScanSays tree
-          lays-text f =
-              record {
-                tree = q .0;
-                tree-of = q .1;
-                nodes-free = omega (arith, f .within, enough .nodes-free);
-                frames-free = rw (enough .same) (omega (arith, q .2, enough .frames-free));
-                short = f .short;
-              }
-
-          -- the table once the text is laid out
-          module _ (w′ : List ℕ) (v : ℕ) (g : laysAs w u l w′ v) where
-            laid-table : _≡_ {A = Table} (record { words = w′; used = v }) (lay (record { words = w; used = u }) tree .table)
-            unfolding ScanSays laysAs tree
-            laid-table = g (q .0) (q .1)
-
-            pub lays-some : 1 ≤ v
-            lays-some =
-                let t : Table = record { words = w; used = u } in
-                omega (arith, ap (λ (x : Table). x .used) laid-table, lay-used t tree, size-pos tree)
-
-            pub is-laid : (y : List ℕ) {x : List ℕ} → length y ≡ length z → x ≡ cleared y 0 (length y) → whole (Node (v - 1) v) w′ x ≡ readTree w u s l (readable l)
-            unfolding laid placed
-            is-laid y a b =
-                let t : Table = record { words = w; used = u } in
-                let c : v ≡ lay t tree .table .used = ap (λ (k : Table). k .used) laid-table in
-                let d : v - 1 ≡ lay t tree .node = omega (arith, lay-node t tree) in
-                let n : length y ≡ length s = a ∙ ap length (enough .same) in
-                rw (d, c, ap (λ (k : Table). k .words) laid-table, b ∙ cleared-zeros y s (length y) n n) (enough .laid-is ∙ is-tree)
+          -- what the digits came to, and what was settled with the stack that they left
+          pub is-laid : (g : Got) (w′ y : List ℕ) → keep [] (gotBy g w′) ≡ layDigits (record { words = w; used = u }) l → ReadyGot g w′ slots ix → length y ≡ length z
+              → {a : Made} {w″ s″ : List ℕ} → whole a w″ s″ ≡ settled u y (gotBy g w′) → (whole a w″ s″ ≡ readTree w u s l (readable l)) × ReadyMade a w″ slots ix
+          unfolding laid ScanSays tree
+          is-laid g w′ y d f k t =
+              let n = has-room s m e p in (
+                t ∙ settled-same u y s (gotBy g w′) (k ∙ ap length (n .same))
+                    ∙ ap (settled u s) (digits-whole (record { words = w; used = u }) l (q .1) d)
+                    ∙ laid-within s m e w u (q .0) p ∙ is-tree,
+                settled-ready g w′ y u slots ix t f,
+              )
 
 -- the test of a text
 module _ (l : List ℕ) where

@@ -6,15 +6,19 @@ use calculus::Uses;
 use frames::End;
 use frames::Machine;
 use frames::Turned;
+use index::Got;
 ghost use mathlib.Core.Path.{_≡_};
 ghost use Prim.Native.Nat.{_+_, _-_, _*_, _≤_, _<_};
 ghost use lib.ListN.{length};
 ghost use Rattle.calculus.specs.Uses.{steps};
 ghost use Rattle.table.specs.Nodes.{first};
 ghost use Rattle.table.specs.Outcome.{frames};
+ghost use Rattle.table.specs.Claims.{Unbroken};
+ghost use Rattle.index.specs.Index.{Ready};
 ghost use Rattle.applying.specs.Machine.{forkRule, rule, grow, turn};
 ghost use Rattle.applying.specs.States.{Good};
 ghost use Rattle.frames.specs.Code.{usesOf, stateOf, turnOf};
+ghost use Rattle.rules.specs.Code.{ReadyTurned};
 
 // The rule for a fork with the branches x and y.
 fn fork_rule(table: &[u32], x: usize, y: usize) -> Rule
@@ -48,7 +52,7 @@ fn wanted(table: &[u32], function: usize) -> Rule
     fork_rule(table, a - 1, b - 1)
 }
 
-// The outcome is a new node with the words a and b, if it has a place. The uses are those with this one.
+// The outcome is the node with the words a and b, if it is there or has a place. The uses are those with this one.
 fn grow(
     table: &mut [u32],
     stack: &mut [u32],
@@ -56,25 +60,32 @@ fn grow(
     uses: Uses,
     a: usize,
     b: usize,
+    index: &mut [u32],
+    slots: usize,
 ) -> Turned
-    requires { ⌜ (length (now table) ≤ 131072) × (state .held * 3 ≤ length (now stack)) × (a < 4294967296) × (b < 4294967296) ⌝ }
-    ensures { λ r. ⌜ turnOf r (now (table .exit)) (now (stack .exit)) ≡ grow (stateOf state (now (table .entry)) (now (stack .entry))) uses a b ⌝ }
+    requires { ⌜ Ready (now table) (state .used) slots (now index) × (state .held * 3 ≤ length (now stack)) × Unbroken (state .used) a b ⌝ }
+    ensures { λ r. ⌜ (turnOf r (now (table .exit)) (now (stack .exit)) ≡ grow (stateOf state (now (table .entry)) (now (stack .entry))) uses a b) × ReadyTurned r (now (table .exit)) slots (now (index .exit)) ⌝ }
 {
-    let used = state.used;
-    if table.len() / 2 <= used {
+    let got = index::make(table, state.used, index, slots, a, b);
+    let Got::Node { node, used } = got else {
         return Turned {
             state: state,
             end: End::Nodes,
         };
-    }
-    let made = nodes::new_node(table, used, a, b);
-    frames::resume(stack, made.used, state.held, uses, made.node)
+    };
+    frames::resume(stack, used, state.held, uses, node)
 }
 
 // One use of a rule.
-pub fn turn(table: &mut [u32], stack: &mut [u32], state: Machine) -> Turned
-    requires { ⌜ Good (frames (now stack)) (stateOf state (now table) (now stack)) × (steps (usesOf state) < 1000000) ⌝ }
-    ensures { λ r. ⌜ turnOf r (now (table .exit)) (now (stack .exit)) ≡ turn (frames (now (stack .entry))) (stateOf state (now (table .entry)) (now (stack .entry))) ⌝ }
+pub fn turn(
+    table: &mut [u32],
+    stack: &mut [u32],
+    state: Machine,
+    index: &mut [u32],
+    slots: usize,
+) -> Turned
+    requires { ⌜ Good (frames (now stack)) (stateOf state (now table) (now stack)) × (steps (usesOf state) < 1000000) × Ready (now table) (state .used) slots (now index) ⌝ }
+    ensures { λ r. ⌜ (turnOf r (now (table .exit)) (now (stack .exit)) ≡ turn (frames (now (stack .entry))) (stateOf state (now (table .entry)) (now (stack .entry)))) × ReadyTurned r (now (table .exit)) slots (now (index .exit)) ⌝ }
 {
     let n = state.argument;
     let mut uses = Uses {
@@ -88,11 +99,11 @@ pub fn turn(table: &mut [u32], stack: &mut [u32], state: Machine) -> Turned
     match rule {
         Rule::Leaf => {
             uses.leaf += 1;
-            grow(table, stack, state, uses, n + 1, 0)
+            grow(table, stack, state, uses, n + 1, 0, index, slots)
         }
         Rule::Stem(p) => {
             uses.stem += 1;
-            grow(table, stack, state, uses, p + 1, n + 1)
+            grow(table, stack, state, uses, p + 1, n + 1, index, slots)
         }
         Rule::Drop(y) => {
             uses.drop += 1;

@@ -4,40 +4,58 @@ use mathlib.Core.Path.{_≡_, refl}
 use mathlib.Core.Bool.{Bool, true, false}
 use mathlib.Core.List.{List}
 use mathlib.Core.Option.{Option, none, some}
-use Rattle.table.specs.Outcome.{wholeOut}
+use Rattle.table.specs.Outcome.{Outcome, wholeOut}
 use Rattle.table.specs.declared.Refusal.{Refusal}
 use Rattle.table.specs.declared.Refusal.the-variants as refusal
 use Rattle.table.proofs.Words.{zero-one}
 use Rattle.fields.specs.Packet.{Packet, packet}
 use Rattle.packet.specs.Code.{valueAt, labelAt, packetAt, formOf}
 use Rattle.packet.specs.declared.Form.the-variants as form
-use Rattle.packet.proofs.Parts.{Parts}
+use Rattle.packet.proofs.Parts.{Parts, packet-parts}
 use Rattle.running.specs.Run.{texts, partsLack, stages, runPacket, lengthsFit, run}
+use Rattle.running.specs.declared.Ran.{Ran}
 use Rattle.running.specs.declared.Ran.the-variants.{Refused}
+use Rattle.running.proofs.Limit.{packet-limit}
+use Rattle.endings.proofs.Ways.{empty-ready}
+use Rattle.stages.specs.Asked.{Passed}
 
 module _ (w s o l : List ℕ) {b : Bool} (h : b ≡ lengthsFit w s o) where
   pub too-long : b ≡ false → wholeOut (Refused refusal.Limits) w s o ≡ run w s o l
   unfolding run
   too-long e = rw (← h, e)
 
-  module _ (e : b ≡ true) where
-    pub packet-none : form.Broken ≡ formOf (packet l) → wholeOut (Refused refusal.Packet) w s o ≡ run w s o l
-    unfolding run runPacket formOf
-    packet-none f = rw (← h, e) (go (packet l) f)
-      where
-        go : (r : Option Packet) → form.Broken ≡ formOf r → wholeOut (Refused refusal.Packet) w s o ≡ runPacket w s o r
-        go none p = refl
-        go (some p) q = zero-one (cc)
+  pub packet-none : b ≡ true → form.Broken ≡ formOf (packet l) → wholeOut (Refused refusal.Packet) w s o ≡ run w s o l
+  unfolding run runPacket formOf
+  packet-none e f = rw (← h, e) (go (packet l) f)
+    where
+      go : (r : Option Packet) → form.Broken ≡ formOf r → wholeOut (Refused refusal.Packet) w s o ≡ runPacket w s o r
+      go none p = refl
+      go (some p) q = zero-one (cc)
 
-    module _ {k n m : ℕ} (p : Parts l k n m) where
-      abbrev lack : Option Refusal
-      lack = partsLack (valueAt l 0) (texts (packetAt l k n m))
+-- a whole packet, in lent memory of lengths that fit
+module _ (w s o l : List ℕ) {k n m : ℕ} (h : lengthsFit w s o ≡ true) (f : form.Whole k n m ≡ formOf (packet l)) where
+  pub parts : Parts l k n m
+  parts = packet-parts l k n m f
 
-      pub refused : {c : Refusal} → some c ≡ lack → wholeOut (Refused c) w s o ≡ run w s o l
-      unfolding run runPacket
-      refused q = rw (← h, e, p .is-packet, ← q)
+  abbrev lack : Option Refusal
+  lack = partsLack (valueAt l 0) (texts (packetAt l k n m))
 
-      -- "otherwise passes over it" ([1]): the stages are those of the packet without its label
-      pub passed : none ≡ lack → stages w s o (packetAt l k n 0) ≡ run w s o l
-      unfolding run runPacket stages labelAt
-      passed q = rw (← h, e, p .is-packet, ← q)
+  pub refused : {c : Refusal} → some c ≡ lack → wholeOut (Refused c) w s o ≡ run w s o l
+  unfolding run runPacket
+  refused q = rw (h, parts .is-packet, ← q)
+
+  -- what the stages ask
+  pub asked : Passed w s o l k n
+  asked =
+      record {
+        ready = empty-ready w s o h;
+        limited = packet-limit l (parts .is-packet);
+        few = parts .few;
+        rule-stands = parts .rule-stands;
+        stand = parts .stand;
+      }
+
+  -- "otherwise passes over it" ([1]): the stages are those of the packet without its label
+  pub passed : none ≡ lack → (x : Outcome Ran) → x ≡ stages w s o (packetAt l k n 0) → x ≡ run w s o l
+  unfolding run runPacket stages labelAt
+  passed q x e = rw (h, parts .is-packet, ← q) e

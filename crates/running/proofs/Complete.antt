@@ -30,7 +30,7 @@ module _ {w s o l : List ℕ} {p : Packet} {t : Term} {args : List Tree} (c : Ch
   run-complete {r} {k} d h = go (run-checked c)
     where
       go : Staged w s o p t args (run w s o l) → Writes w s o l r k
-      go (stops {e = e} x b q) = inr (e, stops-by TooFew (λ a. absurd (omega (arith, a .no-tree refl d))) few-nodes few-frames few-bytes x, ap (λ (z : Outcome Ran). z .answer) q)
+      go (stops {e = e} x b q) = inr (e, stops-by TooFew (λ z v ns a. absurd (omega (arith, a .no-tree refl d))) few-nodes few-frames few-bytes x, ap (λ (z : Outcome Ran). z .answer) q)
       go (ends {z = z} x q) =
           let i = applyAll-unique d (x .translated) in
           inl (z .used, rw (i .0, i .1) (ap (λ (z : Outcome Ran). z .answer) q))

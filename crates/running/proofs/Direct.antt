@@ -6,6 +6,7 @@ use mathlib.Core.Option.{some}
 use native.Mathlib.Omega.{arith}
 use lib.ListN.{length, drop}
 use lib.Seq.{take-at}
+use Rattle.table.specs.Nodes.{Table}
 use Rattle.table.specs.Outcome.{Outcome}
 use Rattle.table.specs.Refusal.{refusedNumbers}
 use Rattle.calculus.specs.Tree.{Tree}
@@ -25,9 +26,10 @@ use Rattle.table.proofs.Words.{zero-one}
 use Rattle.ternary.proofs.Reading.{readable-some}
 use Rattle.fields.specs.Packet.{Packet}
 use Rattle.running.specs.Run.{run, ranNumbers, ranUses}
-use Rattle.running.specs.Claims.{Checked, Completes}
+use Rattle.running.specs.Claims.{endTable, Checked, Completes}
 use Rattle.running.specs.declared.Ran.{Ran}
 use Rattle.running.specs.declared.Ran.the-variants.{Text, Refused}
+use Rattle.running.proofs.Undone.{reached-ends}
 use Rattle.running.proofs.Outcomes.{Staged, stops, ends}
 use Rattle.running.proofs.Checks.{run-checked, Checking, fails, goes-on, checking}
 use Rattle.running.proofs.Refused.{refuses-with}
@@ -43,7 +45,7 @@ module _ (w s o l : List ℕ) (m u n : ℕ) (k : Uses) where
   -- "Run a packet": where Run writes a text, with one argument or more it is that of the tree that the direct run of the packet's rule on its arguments
   -- ends in; with one argument the steps are the direct run's plus 2L + 5X − 1. "Their sum is the steps" ([5]), and the uses are the sums over its arguments.
   pub run-direct : run w s o l .answer ≡ Text m u n k → Completes w s o l m u n k
-  unfolding Translated ranNumbers ranUses
+  unfolding Translated ranNumbers ranUses endTable
   run-direct q = go (checking w s o l)
     where
       of-stages : {p : Packet} {t : Term} {args : List Tree} → Checked w s o l p t args → Staged w s o p t args (run w s o l) → Completes w s o l m u n k
@@ -77,7 +79,16 @@ module _ (w s o l : List ℕ) (m u n : ℕ) (k : Uses) where
             within-limit = omega (arith, h .within-limit, ap steps a);
             direct = λ low high. demand-3 (p .rule) t rules args low high r .0 .0 (m, y);
             steps = λ one j d. demand-3 (p .rule) t rules args (omega arith) (omega (arith, rule-leads (p .rule) rules)) r .1 m j one y d;
-            used-is = rw (← a) (omega (arith, h .used-is));
+            placed = h .placed;
+            rule-laid = h .rule-laid;
+            read-table = h .read-table;
+            read-nodes = h .read-nodes;
+            arguments-read = h .arguments-read;
+            node = h .node;
+            reached = rw (words, ← b, ← a) (h .reached);
+            node-has = rw (words, ← b) (h .node-has);
+            used-is = sym b ∙ ap (λ (y : Table). y .used) (reached-ends (h .reached));
+            used-most = rw (← a) (omega (arith, h .used-most));
             stack = cc;
             same-length = ap length words ∙ h .extends .kept .same-length;
             beyond = λ i l. rw words (h .extends .beyond i (omega arith));

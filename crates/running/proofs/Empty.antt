@@ -11,11 +11,12 @@ use Rattle.calculus.specs.Rules.{ApplyAll, at-end}
 use Rattle.calculus.specs.Term.{Term}
 use Rattle.calculus.specs.Bytes.{rule}
 use Rattle.calculus.specs.Abstraction.{ruleTree}
+use Rattle.table.specs.Nodes.{Table}
 use Rattle.ternary.specs.Text.{treeOf}
 use Rattle.table.proofs.Words.{zero-one}
 use Rattle.fields.specs.Packet.{Packet, packet}
 use Rattle.running.specs.Run.{run}
-use Rattle.running.specs.Claims.{total, Completes, Bare}
+use Rattle.running.specs.Claims.{total, endTable, ReadsHad, all-read, Completes, Bare}
 use Rattle.running.specs.declared.Ran.the-variants.{Text}
 use Rattle.running.proofs.Direct.{run-direct}
 
@@ -23,11 +24,15 @@ use Rattle.running.proofs.Direct.{run-direct}
 none-applied : {f r : Tree} {k : Uses} → ApplyAll f [] r k → (r ≡ f) × (k ≡ noUses)
 none-applied at-end = (refl, refl)
 
+-- nothing to read is nothing read
+none-read : {s : List ℕ} {z y : Table} {ns : List ℕ} → ReadsHad s z [] y ns → (y ≡ z) × (ns ≡ [])
+none-read all-read = (refl, refl)
+
 -- "then none to eight of tag 2, an argument's text" (The packet): with none of them, the text is that of the translated rule, in no step. "Rule 02 03 00
--- without arguments prints 0 0 5 21010." (Depot examples)
+-- without arguments prints 0 0 5 21010." (Depot examples); the line is 0 0 3 21010 since [8], by which "rows and lines that count nodes are worked out afresh".
 pub run-empty : (w s o l : List ℕ) (j u n : ℕ) (k : Uses) (p : Packet) (t : Term) → packet l ≡ some p → p .arguments ≡ [] → rule (p .rule) ≡ some t
     → run w s o l .answer ≡ Text j u n k → Bare w s o l t j u n k
-unfolding total
+unfolding total endTable
 run-empty w s o l j u n k p t e a q h = go (x .args) (ap (map treeOf) (sym (ap (λ (y : Packet). y .arguments) sent ∙ a)) ∙ x .arguments-are) (x .translated)
   where
     x : Completes w s o l j u n k
@@ -39,6 +44,9 @@ run-empty w s o l j u n k p t e a q h = go (x .args) (ap (map treeOf) (sym (ap (
     same : x .term ≡ t
     same = cc (x .is-rule, sent)
 
+    rest : (x .read-table ≡ x .placed .table) × (x .read-nodes ≡ [])
+    rest = none-read (rw (sent, a) at (x .arguments-read))
+
     none : total (x .sent .arguments) ≡ 0
     none = rw (sent, a)
 
@@ -49,7 +57,10 @@ run-empty w s o l j u n k p t e a q h = go (x .args) (ap (map treeOf) (sym (ap (
         record {
           steps-none = omega (arith, x .steps-are, ap steps (y .1));
           uses-none = y .1;
-          used-is = rw (← same) (omega (arith, x .used-is, ap newNodes (y .1), none));
+          placed = x .placed;
+          rule-laid = rw (← same) (x .rule-laid .nodes-enough);
+          used-is = rw (rest .0, rest .1) at (x .used-is);
+          used-most = rw (← same) (omega (arith, x .used-most, ap newNodes (y .1), none));
           digits-are = rw (← r) (x .digits-are);
           out-is = rw (← r) (x .out-is);
         }

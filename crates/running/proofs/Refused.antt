@@ -8,6 +8,7 @@ use mathlib.Core.Option.{none}
 use Rattle.calculus.specs.Tree.{Tree}
 use Rattle.calculus.specs.Term.{Term}
 use Rattle.calculus.specs.Uses.{noUses}
+use Rattle.table.specs.Nodes.{Table}
 use Rattle.table.specs.Outcome.{Outcome}
 use Rattle.table.specs.Refusal.{number, refusedNumbers, clears}
 use Rattle.table.specs.declared.Refusal.{Refusal}
@@ -28,24 +29,25 @@ use Rattle.running.proofs.Outcomes as outcomes
 use Rattle.running.proofs.Checks.{run-long, run-broken-packet, run-bad-rule, run-bad-text, run-checked, Checking, fails, goes-on, checking}
 
 -- a stage stops for nodes, frames or out bytes, or an application for steps
-pub stops-by : (P : Refusal → Type 0) {w s o : List ℕ} {p : Packet} {t : Term} {args : List Tree} → (ApplyStops w s p t args Steps → P Steps) → P Nodes → P Frames → P Out
+pub stops-by : (P : Refusal → Type 0) {w s o : List ℕ} {p : Packet} {t : Term} {args : List Tree}
+    → ((z : Table) (v : ℕ) (ns : List ℕ) → ApplyStops w s p t args z v ns Steps → P Steps) → P Nodes → P Frames → P Out
     → {e : Refusal} {m : ℕ} → Stops w s o p t args e m → P e
-stops-by P a b c d (in-translate (translate-nodes h)) = b
-stops-by P a b c d (in-translate (translate-frames h k)) = c
+stops-by P a b c d (in-translate (translate-frames h)) = c
+stops-by P a b c d (in-translate (translate-nodes h k)) = b
 stops-by P a b c d (in-read i r) = go r
   where
-    go : {w s : List ℕ} {u : ℕ} {ls : List (List ℕ)} {e : Refusal} {m : ℕ} → ReadStops w s u ls e m → P e
-    go (no-nodes h) = b
-    go (no-frames h k) = c
-    go (later h k r) = go r
-stops-by P {w = w} {s = s} {p = p} {t = t} {args = args} a b c d (in-apply i j x h k) = go (x .halts) x
+    go : {s : List ℕ} {z : Table} {ls : List (List ℕ)} {e : Refusal} {m : ℕ} → ReadStops s z ls e m → P e
+    go (no-frames h) = c
+    go (no-nodes h k l) = b
+    go (later h k l r) = go r
+stops-by P {w = w} {s = s} {p = p} {t = t} {args = args} a b c d (in-apply i j x h) = go (x .halts) x
   where
     lacked : {all : ℕ} {z : State} {e : Refusal} → Lacks all z e → P e
-    lacked (no-place h l) = b
+    lacked (no-place h l k) = b
     lacked (all-held h l) = c
 
-    go : {all limit : ℕ} {z : State} {e : Refusal} → Halts all limit z e → ApplyStops w s p t args e → P e
-    go (limit-reached h l) x = a x
+    go : {all limit : ℕ} {z : State} {y : Table} {v : ℕ} {ns : List ℕ} {e : Refusal} → Halts all limit z e → ApplyStops w s p t args y v ns e → P e
+    go (limit-reached h l) x = a _ _ _ x
     go (at-use h l m) x = lacked m
 stops-by P a b c d (in-write i j x h r k l) = go r
   where
@@ -56,7 +58,7 @@ stops-by P a b c d (in-write i j x h r k l) = go r
 -- the stages stop with 7 to 10 alone
 pub stops-clears : {w s o : List ℕ} {p : Packet} {t : Term} {args : List Tree} {e : Refusal} {m : ℕ} → Stops w s o p t args e m → clears e ≡ true
 unfolding clears number
-stops-clears = stops-by (λ (e : Refusal). clears e ≡ true) (λ a. refl) refl refl refl
+stops-clears = stops-by (λ (e : Refusal). clears e ≡ true) (λ z v ns a. refl) refl refl refl
 
 no-stage : {A : Type 0} {w s o : List ℕ} {p : Packet} {t : Term} {args : List Tree} {e : Refusal} {m : ℕ} → Stops w s o p t args e m → clears e ≡ false → A
 no-stage h k = zero-one (cc (stops-clears h))

@@ -14,7 +14,7 @@ use Rattle.calculus.specs.Term.{Term}
 use Rattle.calculus.specs.Bytes.{rule}
 use Rattle.calculus.specs.Abstraction.{ruleTree}
 use Rattle.calculus.proofs.Unique.{apply-unique}
-use Rattle.table.specs.Nodes.{Table, Sound, treeAt}
+use Rattle.table.specs.Nodes.{Table, Placed, Sound, treeAt}
 use Rattle.table.specs.Outcome.{Outcome, frames}
 use Rattle.table.specs.declared.Refusal.{Refusal}
 use Rattle.table.specs.declared.Made.{Made}
@@ -24,18 +24,17 @@ use Rattle.table.proofs.Making.{stays}
 use Rattle.ternary.specs.Read.{read, readable}
 use Rattle.table.proofs.Words.{zero-one}
 use Rattle.translation.specs.Translate.{translate}
-use Rattle.applying.specs.Machine as machine
-use Rattle.applying.specs.Apply.{begin, apply}
+use Rattle.applying.specs.Apply.{apply}
 use Rattle.applying.specs.declared.Applied.{Applied}
 use Rattle.applying.specs.declared.Applied.the-variants as applied
 use Rattle.applying.proofs.Follows.{apply-follows}
 use Rattle.applying.proofs.Complete.{steps-used-up}
 use Rattle.fields.specs.Packet.{Packet}
 use Rattle.running.specs.Run.{afterMade, afterApplied, writes, applies, reads, stages}
-use Rattle.running.specs.Claims.{Fit, total, nodesBy, laidTable, laidNodes, madeAll, nodesMade, TranslateHad, ReadsHad, all-read, and-read, ReadStops, later, ApplyStops, Stops, in-translate, in-read, in-apply, in-write}
+use Rattle.running.specs.Claims.{Fit, total, nodesBy, endTable, TranslateHad, ReadsHad, all-read, and-read, ReadStops, later, Reached, at-first, and-applied, ApplyStops, Stops, in-translate, in-read, in-apply, in-write}
 use Rattle.running.specs.declared.Ran.{Ran}
 use Rattle.running.specs.declared.Ran.the-variants.{Refused}
-use Rattle.running.proofs.Undone.{apply-halts, all-on, all-stop}
+use Rattle.running.proofs.Undone.{apply-halts, reached-ends, all-stop}
 use Rattle.running.proofs.OneStage.{Stands, zeros-length, enter, Stopped, stop-here, Translating, translated, not-translated, translating, Reading, read-as, not-read, reading, Writing, written, not-written, writing}
 use Rattle.running.proofs.Outcomes.{Staged, stops, ends}
 
@@ -69,10 +68,13 @@ record Applying (w s : List ℕ) (p : Packet) (t : Term) (args : List Tree) (z :
   root : Has z v tree
   so-far : ApplyAll (ruleTree t) before tree k
   within-limit : steps k ≤ p .limit
-  used-is : z .used ≡ nodesBy p t k
-  all-made : z .used + madeAll (frames s) (p .limit - steps k) z v ns ≡ nodesMade w s p t args
-  translated : TranslateHad w s t
-  read-all : ReadsHad w s (size (ruleTree t)) (p .arguments)
+  used-most : z .used ≤ nodesBy p t k
+  placed : Placed
+  read-table : Table
+  read-nodes : List ℕ
+  translated : TranslateHad w s t placed
+  read-all : ReadsHad s (placed .table) (p .arguments) read-table read-nodes
+  reached : Reached (frames s) (p .limit) read-table (placed .node) read-nodes z v ns k
 
 module _ {w s o : List ℕ} (fit : Fit w s o) (p : Packet) (t : Term) (args : List Tree) where
   -- a stage was refused
@@ -80,18 +82,26 @@ module _ {w s o : List ℕ} (fit : Fit w s o) (p : Packet) (t : Term) (args : Li
   refuse q x = stops q (x .within) (x .outcome)
 
   writes-staged : {z : Table} {y : List ℕ} {v : ℕ} {k : Uses} → Applying w s p t args z y v k args [] → Staged w s o p t args (writes (z .words) (z .used) y o v k)
-  unfolding madeAll
+  unfolding endTable
   writes-staged {z} {y} {v} {k} a = go (writing fit (a .stands) (a .root) k)
     where
       go : Writing w s o z k (a .tree) (writes (z .words) (z .used) y o v k) → Staged w s o p t args (writes (z .words) (z .used) y o v k)
-      go (not-written e x q) = refuse (in-write (a .translated) (a .read-all) (a .so-far) (a .within-limit) x (omega (arith, a .all-made)) (a .used-is)) q
+      go (not-written e x q) = refuse (in-write (a .translated) (a .read-all) (a .so-far) (a .within-limit) x (ap (λ (y : Table). y .used) (reached-ends (a .reached))) (a .used-most)) q
       go (written room q) =
           ends (record {
             translated = a .so-far;
             within-limit = a .within-limit;
             fine = a .stands .fine;
             extends = a .stands .extends;
-            used-is = a .used-is;
+            placed = a .placed;
+            rule-laid = a .translated;
+            read-table = a .read-table;
+            read-nodes = a .read-nodes;
+            arguments-read = a .read-all;
+            node = v;
+            reached = a .reached;
+            node-has = a .root;
+            used-most = a .used-most;
             room = room;
           }) q
 
@@ -117,7 +127,6 @@ module _ {w s o : List ℕ} (fit : Fit w s o) (p : Packet) (t : Term) (args : Li
         go (applied.Node v′ u′ i j) e on =
             let q = apply-follows (z .words) (z .used) y v n (p .limit - steps k) v′ u′ i j e in
             let d : Apply (a .tree) x (treeAt (r .table) v′) j = rw (a .root .tree, h .tree) at (q .applies) in
-            let less : p .limit - steps (k ⊕ j) ≡ p .limit - steps k - steps j = omega arith in
             on (record { words = r .table; used = u′ }) (r .stack) v′ (k ⊕ j) (before ++ (x ∷ [])) (all-stay (st .fine) (q .extends .kept) hs)
             (record {
               stands = record { fine = q .fine; extends = extends-trans (st .extends) (q .extends); stack = zeros-length _ y (q .stack) ∙ st .stack };
@@ -125,24 +134,30 @@ module _ {w s o : List ℕ} (fit : Fit w s o) (p : Packet) (t : Term) (args : Li
               root = record { inside = q .inside; tree = refl };
               so-far = apply-further (a .so-far) d;
               within-limit = omega (arith, q .within-limit, q .steps-are, a .within-limit);
-              used-is = omega (arith, q .used-is, a .used-is);
-              all-made = rw less (sym (all-on (frames s) (p .limit - steps k) z v n ns (rw (st .stack) at (q .ends))) ∙ a .all-made);
+              used-most = omega (arith, q .used-most, a .used-most);
+              placed = a .placed;
+              read-table = a .read-table;
+              read-nodes = a .read-nodes;
               translated = a .translated;
               read-all = a .read-all;
+              reached = and-applied (a .reached) (rw (st .stack) at (q .ends));
             })
             (m ∙ sym (append-assoc before (x ∷ []) xs))
         go (applied.Refused e) q on =
             let f = enter (fit .stack) st (le-leb (p .limit - steps k) 1000000 (omega arith)) in
             let b = apply-halts (z .words) (z .used) y v n (p .limit - steps k) e f (a .root .inside) (h .inside) q in
             let c = all-stop (z .words) (z .used) y v n (p .limit - steps k) e f (a .root .inside) (h .inside) q ns in
-            let x : ApplyStops w s p t args e =
+            let d = rw (st .stack) at c in
+            let x : ApplyStops w s p t args (a .read-table) (a .placed .node) (a .read-nodes) e =
             record {
               before = before;
               after = xs;
               table = z;
               function = v;
               argument = n;
+              left = ns;
               k = k;
+              reached = a .reached;
               fine = st .fine;
               same-length = st .extends .kept .same-length;
               beyond = st .extends .beyond;
@@ -151,25 +166,24 @@ module _ {w s o : List ℕ} (fit : Fit w s o) (p : Packet) (t : Term) (args : Li
               arguments-are = rw (h .tree) m;
               so-far = rw (a .root .tree) (a .so-far);
               within-limit = a .within-limit;
-              used-is = a .used-is;
+              used-most = a .used-most;
               halts = rw (← st .stack) (b .halts);
+              ends-in = sym d ∙ reached-ends (a .reached);
               no-tree = λ c d. in-time xs (p .limit) (a .so-far) (a .within-limit)
                   (λ g i f. steps-used-up (z .words) (z .used) y v n (p .limit - steps k) (q ∙ ap applied.Refused c) (rw (← a .root .tree, ← h .tree) at f)) (rw m at d);
             } in
-            let u : z .used + machine.made (frames y) (p .limit - steps k) (begin (z .words) (z .used) v n) ≡ nodesMade w s p t args =
-            rw (st .stack) (omega (arith, rw (st .stack) at c, a .all-made)) in
-            refuse (in-apply (a .translated) (a .read-all) x u (rw (← st .stack) (omega (arith, a .used-is)))) (stop-here st (b .back) (r .stack) (zeros-length _ y (b .stack) ∙ st .stack))
+            refuse (in-apply (a .translated) (a .read-all) x (ap (λ (y : Table). y .used) (x .ends-in))) (stop-here st (rw (st .stack) at (b .back)) (r .stack) (zeros-length _ y (b .stack) ∙ st .stack))
 
-  -- each text is read: the nodes have the texts' trees, and each digit is a node
+  -- each text is read: the nodes have the texts' trees, and each digit is at most one new node
   reads-staged : (ls : List (List ℕ)) (xs : List Tree) → map readable ls ≡ map some xs → {z : Table} {y : List ℕ} → Stands w s z y
-      → ((e : Refusal) (m : ℕ) → ReadStops w s (z .used) ls e m → Stops w s o p t args e m)
+      → ((e : Refusal) (m : ℕ) → ReadStops s z ls e m → Stops w s o p t args e m)
       → (next : List ℕ → List ℕ → ℕ → List ℕ → Outcome Ran)
-      → ((ns : List ℕ) (z′ : Table) (y′ : List ℕ) → Stands w s z′ y′ → Kept z z′ → HasAll z′ ns xs → z′ .used ≡ z .used + total ls
-      → z′ ≡ laidTable z xs → ns ≡ laidNodes z xs → ReadsHad w s (z .used) ls
+      → ((ns : List ℕ) (z′ : Table) (y′ : List ℕ) → Stands w s z′ y′ → Kept z z′ → HasAll z′ ns xs → z′ .used ≤ z .used + total ls
+      → ReadsHad s z ls z′ ns
       → Staged w s o p t args (next ns (z′ .words) (z′ .used) y′))
       → Staged w s o p t args (reads ls (z .words) (z .used) y o next)
-  unfolding reads afterMade total laidTable laidNodes
-  reads-staged [] [] q {z} {y} st stop next on = on [] z y st (kept-refl z) no-more (omega arith) refl refl all-read
+  unfolding reads afterMade total
+  reads-staged [] [] q {z} {y} st stop next on = on [] z y st (kept-refl z) no-more (omega arith) all-read
   reads-staged [] (x ∷ xs) q st stop next on = zero-one (cc)
   reads-staged (l ∷ ls) [] q st stop next on = zero-one (cc)
   reads-staged (l ∷ ls) (x ∷ xs) q {z} {y} st stop next on = go (reading fit st l x is) (λ (z : Table) (y : List ℕ). reads-staged ls xs (cc) {z = z} {y = y})
@@ -181,21 +195,21 @@ module _ {w s o : List ℕ} (fit : Fit w s o) (p : Packet) (t : Term) (args : Li
       is = cc
 
       go : Reading w s o z y l x
-          → ((z : Table) (y : List ℕ) → Stands w s z y → ((e : Refusal) (m : ℕ) → ReadStops w s (z .used) ls e m → Stops w s o p t args e m)
+          → ((z : Table) (y : List ℕ) → Stands w s z y → ((e : Refusal) (m : ℕ) → ReadStops s z ls e m → Stops w s o p t args e m)
           → (next : List ℕ → List ℕ → ℕ → List ℕ → Outcome Ran)
-          → ((ns : List ℕ) (z′ : Table) (y′ : List ℕ) → Stands w s z′ y′ → Kept z z′ → HasAll z′ ns xs → z′ .used ≡ z .used + total ls
-          → z′ ≡ laidTable z xs → ns ≡ laidNodes z xs → ReadsHad w s (z .used) ls
+          → ((ns : List ℕ) (z′ : Table) (y′ : List ℕ) → Stands w s z′ y′ → Kept z z′ → HasAll z′ ns xs → z′ .used ≤ z .used + total ls
+          → ReadsHad s z ls z′ ns
           → Staged w s o p t args (next ns (z′ .words) (z′ .used) y′))
           → Staged w s o p t args (reads ls (z .words) (z .used) y o next))
           → Staged w s o p t args (afterMade (z .used) o r (λ w′ u′ s′ n. reads ls w′ u′ s′ o (λ ns. next (n ∷ ns))) (r .answer))
       go (read-as n u′ e g) rec =
           rw e
           (rec (record { words = r .table; used = u′ }) (r .stack) (g .stands)
-          (λ e m k. stop e m (later (g .nodes-enough) (g .frames-enough) (rw (← g .used-is) k)))
+          (λ e m k. stop e m (later is (g .frames-enough) (g .nodes-enough) k))
           (λ ns. next (n ∷ ns))
-          (λ ns z′ y′ st′ k hs d a q m. on (n ∷ ns) z′ y′ st′ (kept-trans (g .kept) k)
-          (and-then (stays (g .stands .fine) k (g .root)) hs) (omega (arith, g .used-is)) (rw (← g .place) a) (rw (← g .place, q)) (and-read (g .nodes-enough) (g .frames-enough) (rw (g .used-is) at m))))
-      go (not-read e q h x) rec = rw q (refuse (stop e (z .used) (h ls)) x)
+          (λ ns z′ y′ st′ k hs d m. on (n ∷ ns) z′ y′ st′ (kept-trans (g .kept) k)
+          (and-then (stays (g .stands .fine) k (g .root)) hs) (omega (arith, d, g .used-most)) (and-read is (g .frames-enough) (g .nodes-enough) m)))
+      go (not-read e m q h x) rec = rw q (refuse (stop e m (h ls)) x)
 
   -- "Then Translate, Read of each argument, Apply in order under one step limit, Write, each with its 7 to 10."
   pub stages-staged : rule (p .rule) ≡ some t → map readable (p .arguments) ≡ map some args → p .limit ≤ 1000000 → Staged w s o p t args (stages w s o p)
@@ -213,20 +227,20 @@ module _ {w s o : List ℕ} (fit : Fit w s o) (p : Packet) (t : Term) (args : Li
           (reads-staged (p .arguments) args texts
           {z = record { words = r .table; used = u′ }} {y = r .stack}
           (g .stands)
-          (λ e m k. in-read (g .had) (rw (← g .used-is) k))
+          (λ e m k. in-read (g .had) k)
           (λ ns w″ u″ s″. applies ns (p .limit) w″ u″ s″ o v noUses)
-          (λ ns z′ y′ st′ k hs i j h a. applies-staged limited ns hs (record {
+          (λ ns z′ y′ st′ k hs i a. applies-staged limited ns hs (record {
             stands = st′;
             tree = ruleTree t;
             root = stays (g .stands .fine) k (g .root);
             so-far = at-end;
             within-limit = omega arith;
-            used-is = omega (arith, i, g .used-is);
-            all-made =
-                let l : z′ .used ≡ size (ruleTree t) + total (p .arguments) = omega (arith, i, g .used-is) in
-                let m : p .limit - 0 ≡ p .limit = omega arith in
-                rw (← g .place, ← j, ← h, m) (omega arith);
+            used-most = omega (arith, i, g .used-most);
+            placed = record { table = record { words = r .table; used = u′ }; node = v };
+            read-table = z′;
+            read-nodes = ns;
             translated = g .had;
-            read-all = rw (← g .used-is) a;
+            read-all = a;
+            reached = at-first;
           }) refl))
-      go (not-translated e q h x) = rw q (refuse (in-translate h) x)
+      go (not-translated e m q h x) = rw q (refuse (in-translate h) x)

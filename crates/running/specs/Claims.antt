@@ -8,14 +8,15 @@ use mathlib.Core.Option.{Option, none, some}
 use lib.ListN.{length, take, drop, getD}
 use Rattle.calculus.specs.Tree.{Tree, size}
 use Rattle.calculus.specs.declared.Uses.{Uses}
-use Rattle.calculus.specs.Uses.{noUses, steps, newNodes}
+use Rattle.calculus.specs.Uses.{noUses, _⊕_, steps, newNodes}
 use Rattle.calculus.specs.Rules.{ApplyAll}
 use Rattle.calculus.specs.Term.{Term, parameters}
 use Rattle.calculus.specs.Bytes.{rule}
 use Rattle.calculus.specs.Abstraction.{ruleTree}
 use Rattle.calculus.specs.Runs.{Direct, difference}
-use Rattle.table.specs.Nodes.{Table, Placed, capacity, Sound, treeAt, lay, cleared}
+use Rattle.table.specs.Nodes.{Table, Placed, got, capacity, Sound, treeAt, lay, cleared}
 use Rattle.table.specs.Outcome.{Outcome, wholeOut, frames, zeros}
+use Rattle.table.specs.Claims.{Lacking, Has}
 use Rattle.table.specs.declared.Refusal.{Refusal}
 use Rattle.table.specs.declared.Refusal.the-variants.{Limits, Rule, Steps, Nodes, Frames, Out}
 use Rattle.table.specs.declared.Refusal.the-variants as refusal
@@ -23,7 +24,8 @@ use Rattle.ternary.specs.Text.{text, treeOf, mostPending}
 use Rattle.ternary.specs.Read.{readable}
 use Rattle.ternary.specs.Write.{lacks}
 use Rattle.ternary.specs.Held.{Spent}
-use Rattle.applying.specs.Machine.{Turn, more, done, stop, uses, made}
+use Rattle.applying.specs.Machine.{Turn, more, done, stop, uses}
+use Rattle.applying.specs.States.{tableOf}
 use Rattle.applying.specs.Apply.{begin}
 use Rattle.applying.specs.Lacks.{Halts}
 use Rattle.fields.specs.Packet.{Packet, packet}
@@ -61,75 +63,68 @@ unfoldable pub total : List (List ℕ) → ℕ
 total [] = 0
 total (l ∷ ls) = length l + total ls
 
--- The nodes made since Run's entry where the rule t is translated, the arguments are read, and applications with the uses k are completed: those of the
--- rule's tree, one a digit of the arguments' texts, and the "one new node" of each use of leaf and stem.
+-- At most so many nodes are made since Run's entry where the rule t is translated, the arguments are read, and applications with the uses k are completed:
+-- those of the rule's tree, one a digit of the arguments' texts, and one for each use of leaf and stem. "[5]'s node sum becomes an upper bound" ([8]).
 abbrev pub nodesBy : Packet → Term → Uses → ℕ
 nodesBy p t k = size (ruleTree t) + total (p .arguments) + newNodes k
 
--- Where Apply begins, the rule's tree and then the arguments' are laid: "Nodes lie as Read would lay its text." The table, and the arguments' nodes.
-abbrev pub ruleLaid : List ℕ → Term → Placed
-ruleLaid w t = lay (record { words = w; used = 0 }) (ruleTree t)
+-- "Apply in order under one step limit": the table in which applying node v of the table z to the first of the nodes ns, the outcome to the second, and so
+-- on, ends, or a use lacks something. `all` frames are lent, and `limit` steps are left.
+unfoldable pub endOnwards : (Placed → Uses → Table) → Turn → Table
+endOnwards next (more z) = z .table
+endOnwards next (done p j) = next p j
+endOnwards next (stop e t) = t
 
-unfoldable pub laidTable : Table → List Tree → Table
-laidTable z [] = z
-laidTable z (x ∷ xs) = laidTable (lay z x .table) xs
+unfoldable pub endTable : ℕ → ℕ → Table → ℕ → List ℕ → Table
+endTable all limit z v [] = z
+endTable all limit z v (n ∷ ns) = endOnwards (λ p j. endTable all (limit - steps j) (p .table) (p .node) ns) (uses all limit (begin (z .words) (z .used) v n))
 
-unfoldable pub laidNodes : Table → List Tree → List ℕ
-laidNodes z [] = []
-laidNodes z (x ∷ xs) = lay z x .node ∷ laidNodes (lay z x .table) xs
+-- What Translate lacks, and how many nodes were made: "9: fewer than two frames for each node of the tree." (Operations, Translate); 8 "only when a node not
+-- yet in the table is wanted and the table is full" ([8]).
+pub data TranslateStops (w s : List ℕ) (t : Term) : Refusal → ℕ → Type 0 where
+  translate-frames : frames s < 2 * size (ruleTree t) → TranslateStops w s t Frames 0
+  translate-nodes : 2 * size (ruleTree t) ≤ frames s → {z : Table} → Lacking (record { words = w; used = 0 }) (ruleTree t) z → TranslateStops w s t Nodes (capacity w)
 
--- "Apply in order under one step limit": how many nodes are made where node v of the table z is applied to the first of the nodes ns, the outcome to the
--- second, and so on, until that ends or a use lacks something. `all` frames are lent, and `limit` steps are left.
-unfoldable pub madeOnwards : (Placed → Uses → ℕ) → Turn → ℕ
-madeOnwards next (more z) = 0
-madeOnwards next (done p j) = next p j
-madeOnwards next (stop e t) = 0
-
-unfoldable pub madeAll : ℕ → ℕ → Table → ℕ → List ℕ → ℕ
-madeAll all limit z v [] = 0
-madeAll all limit z v (n ∷ ns) =
-    made all limit (begin (z .words) (z .used) v n)
-    + madeOnwards (λ p j. madeAll all (limit - steps j) (p .table) (p .node) ns) (uses all limit (begin (z .words) (z .used) v n))
-
--- the nodes made since Run's entry where Apply or Write stops: the rule's, one a digit of the arguments' texts, and those that the uses made
-abbrev pub nodesMade : List ℕ → List ℕ → Packet → Term → List Tree → ℕ
-nodesMade w s p t args =
-    size (ruleTree t) + total (p .arguments)
-    + madeAll (frames s) (p .limit) (laidTable (ruleLaid w t .table) args) (ruleLaid w t .node) (laidNodes (ruleLaid w t .table) args)
-
--- What Translate lacks: "8: tree larger than the free nodes. 9: fewer than two frames for each node of the tree."
-pub data TranslateStops (w s : List ℕ) (t : Term) : Refusal → Type 0 where
-  translate-nodes : capacity w < size (ruleTree t) → TranslateStops w s t Nodes
-  translate-frames : size (ruleTree t) ≤ capacity w → frames s < 2 * size (ruleTree t) → TranslateStops w s t Frames
-
--- What Translate had where it succeeds: "8: tree larger than the free nodes. 9: fewer than two frames for each node of the tree."
-pub record TranslateHad (w s : List ℕ) (t : Term) : Type 0 where
-  pub nodes-enough : size (ruleTree t) ≤ capacity w
+-- what Translate had where it gives the node m
+pub record TranslateHad (w s : List ℕ) (t : Term) (m : Placed) : Type 0 where
   pub frames-enough : 2 * size (ruleTree t) ≤ frames s
+  pub nodes-enough : lay (record { words = w; used = 0 }) (ruleTree t) ≡ got m
 
--- What the Reads of the texts had where all succeed and u nodes are in use before: "8: more digits than free nodes. 9: fewer frames than the most trees
--- pending".
-pub data ReadsHad (w s : List ℕ) : ℕ → List (List ℕ) → Type 0 where
-  all-read : {u : ℕ} → ReadsHad w s u []
-  and-read : {u : ℕ} {l : List ℕ} {ls : List (List ℕ)} → length l ≤ capacity w - u → mostPending l ≤ frames s → ReadsHad w s (u + length l) ls → ReadsHad w s u (l ∷ ls)
+-- What the Reads of the texts had where all succeed, from the table z on: the table then, and the nodes of the texts' trees. "9: fewer frames than the most
+-- trees pending" (Operations, Read).
+pub data ReadsHad (s : List ℕ) : Table → List (List ℕ) → Table → List ℕ → Type 0 where
+  all-read : {z : Table} → ReadsHad s z [] z []
+  and-read : {z y : Table} {l : List ℕ} {ls : List (List ℕ)} {x : Tree} {m : Placed} {ns : List ℕ} → readable l ≡ some x → mostPending l ≤ frames s → lay z x ≡ got m
+      → ReadsHad s (m .table) ls y ns → ReadsHad s z (l ∷ ls) y (m .node ∷ ns)
 
--- What the Read of one of the texts lacks, where u nodes are in use before the first of them and m before that one: "8: more digits than free
--- nodes. 9: fewer frames than the most trees pending". Each text before it has a node a digit.
-pub data ReadStops (w s : List ℕ) : ℕ → List (List ℕ) → Refusal → ℕ → Type 0 where
-  no-nodes : {u : ℕ} {l : List ℕ} {ls : List (List ℕ)} → capacity w - u < length l → ReadStops w s u (l ∷ ls) Nodes u
-  no-frames : {u : ℕ} {l : List ℕ} {ls : List (List ℕ)} → length l ≤ capacity w - u → frames s < mostPending l → ReadStops w s u (l ∷ ls) Frames u
-  later : {u : ℕ} {l : List ℕ} {ls : List (List ℕ)} {e : Refusal} {m : ℕ} → length l ≤ capacity w - u → mostPending l ≤ frames s
-      → ReadStops w s (u + length l) ls e m → ReadStops w s u (l ∷ ls) e m
+-- What the Read of one of the texts lacks, from the table z on, and how many nodes are in use where it stops: "9: fewer frames than the most trees pending"
+-- (Operations, Read); 8 "only when a node not yet in the table is wanted and the table is full" ([8]).
+pub data ReadStops (s : List ℕ) : Table → List (List ℕ) → Refusal → ℕ → Type 0 where
+  no-frames : {z : Table} {l : List ℕ} {ls : List (List ℕ)} → frames s < mostPending l → ReadStops s z (l ∷ ls) Frames (z .used)
+  no-nodes : {z y : Table} {l : List ℕ} {ls : List (List ℕ)} {x : Tree} → readable l ≡ some x → mostPending l ≤ frames s → Lacking z x y
+      → ReadStops s z (l ∷ ls) Nodes (capacity (z .words))
+  later : {z : Table} {l : List ℕ} {ls : List (List ℕ)} {x : Tree} {m : Placed} {e : Refusal} {k : ℕ} → readable l ≡ some x → mostPending l ≤ frames s → lay z x ≡ got m
+      → ReadStops s (m .table) ls e k → ReadStops s z (l ∷ ls) e k
 
--- The application that is refused with e: the arguments before it were applied to with the uses k; then the node `function` was applied to the node
--- `argument` of the table that Run's table had become, and a use lacked what e names. For 7 this means that the whole run does not end within the limit.
-pub record ApplyStops (w s : List ℕ) (p : Packet) (t : Term) (args : List Tree) (e : Refusal) : Type 0 where
+-- "Apply in order under one step limit" (Operations, Run): node v of the table z is applied to the nodes ns in order, each outcome to the next; the applications
+-- completed so far, with the uses k, have led to the table, the node and the nodes left that are named behind.
+pub data Reached (all limit : ℕ) (z : Table) (v : ℕ) (ns : List ℕ) : Table → ℕ → List ℕ → Uses → Type 0 where
+  at-first : Reached all limit z v ns z v ns noUses
+  and-applied : {z′ : Table} {v′ n : ℕ} {ns′ : List ℕ} {k j : Uses} {m : Placed} → Reached all limit z v ns z′ v′ (n ∷ ns′) k
+      → uses all (limit - steps k) (begin (z′ .words) (z′ .used) v′ n) ≡ done m j → Reached all limit z v ns (m .table) (m .node) ns′ (k ⊕ j)
+
+-- The application that is refused with e, where node v of the table z is applied to the nodes ns: the arguments before it were applied to with the uses k;
+-- then the node `function` was applied to the node `argument` of the table that z had become, and a use lacked what e names. For 7 this means that the whole
+-- run does not end within the limit.
+pub record ApplyStops (w s : List ℕ) (p : Packet) (t : Term) (args : List Tree) (z : Table) (v : ℕ) (ns : List ℕ) (e : Refusal) : Type 0 where
   pub before : List Tree
   pub after : List Tree
   pub table : Table
   pub function : ℕ
   pub argument : ℕ
+  pub left : List ℕ
   pub k : Uses
+  pub reached : Reached (frames s) (p .limit) z v ns table function (argument ∷ left) k
   pub fine : Sound table
   pub same-length : length (table .words) ≡ length w
   pub beyond : (i : ℕ) → table .used * 2 ≤ i → getD (table .words) i 0 ≡ getD w i 0
@@ -138,24 +133,22 @@ pub record ApplyStops (w s : List ℕ) (p : Packet) (t : Term) (args : List Tree
   pub arguments-are : args ≡ before ++ (treeAt (table .words) argument ∷ after)
   pub so-far : ApplyAll (ruleTree t) before (treeAt (table .words) function) k
   pub within-limit : steps k ≤ p .limit
-  pub used-is : table .used ≡ nodesBy p t k
+  pub used-most : table .used ≤ nodesBy p t k
   pub halts : Halts (frames s) (p .limit - steps k) (begin (table .words) (table .used) function argument) e
+  -- the table in which it stops is the one in which all the applications end
+  pub ends-in : tableOf (uses (frames s) (p .limit - steps k) (begin (table .words) (table .used) function argument)) ≡ endTable (frames s) (p .limit) z v ns
   pub no-tree : e ≡ Steps → {r : Tree} {j : Uses} → ApplyAll (ruleTree t) args r j → p .limit < steps j
-
--- the nodes that the refused application made until it stopped
-abbrev pub madeUntil : {w s : List ℕ} {p : Packet} {t : Term} {args : List Tree} {e : Refusal} → ApplyStops w s p t args e → ℕ
-madeUntil {s = s} {p = p} x = made (frames s) (p .limit - steps (x .k)) (begin (x .table .words) (x .table .used) (x .function) (x .argument))
 
 -- What the first stage that cannot go on lacks, and the m nodes that were made since Run's entry: "Then Translate, Read of each argument, Apply in
 -- order under one step limit, Write, each with its 7 to 10." The stages before it had what they needed.
 pub data Stops (w s o : List ℕ) (p : Packet) (t : Term) (args : List Tree) : Refusal → ℕ → Type 0 where
-  in-translate : {e : Refusal} → TranslateStops w s t e → Stops w s o p t args e 0
-  in-read : {e : Refusal} {m : ℕ} → TranslateHad w s t → ReadStops w s (size (ruleTree t)) (p .arguments) e m → Stops w s o p t args e m
-  in-apply : {e : Refusal} {m : ℕ} → TranslateHad w s t → ReadsHad w s (size (ruleTree t)) (p .arguments) → (x : ApplyStops w s p t args e)
-      → m ≡ nodesMade w s p t args → m ≡ nodesBy p t (x .k) + madeUntil x → Stops w s o p t args e m
-  in-write : {e : Refusal} {m : ℕ} {r : Tree} {k : Uses} → TranslateHad w s t → ReadsHad w s (size (ruleTree t)) (p .arguments)
-      → ApplyAll (ruleTree t) args r k → steps k ≤ p .limit → Spent (frames s) 0 r (length o) (lacks e)
-      → m ≡ nodesMade w s p t args → m ≡ nodesBy p t k → Stops w s o p t args e m
+  in-translate : {e : Refusal} {m : ℕ} → TranslateStops w s t e m → Stops w s o p t args e m
+  in-read : {e : Refusal} {m : ℕ} {r : Placed} → TranslateHad w s t r → ReadStops s (r .table) (p .arguments) e m → Stops w s o p t args e m
+  in-apply : {e : Refusal} {m : ℕ} {r : Placed} {z : Table} {ns : List ℕ} → TranslateHad w s t r → ReadsHad s (r .table) (p .arguments) z ns
+      → ApplyStops w s p t args z (r .node) ns e → m ≡ endTable (frames s) (p .limit) z (r .node) ns .used → Stops w s o p t args e m
+  in-write : {e : Refusal} {m : ℕ} {r : Placed} {z : Table} {ns : List ℕ} {x : Tree} {k : Uses} → TranslateHad w s t r → ReadsHad s (r .table) (p .arguments) z ns
+      → ApplyAll (ruleTree t) args x k → steps k ≤ p .limit → Spent (frames s) 0 x (length o) (lacks e)
+      → m ≡ endTable (frames s) (p .limit) z (r .node) ns .used → m ≤ nodesBy p t k → Stops w s o p t args e m
 
 -- What was not so where Run refuses with e, and the whole outcome x: "1: lengths only. 6: packet broken. 5: its rule. 4: its arguments' texts, first to
 -- last.", and then the label's ([1]). These "leave lent memory as found". Then a stage stops with 7 to 10: the words of the m nodes made since Run's entry
@@ -216,19 +209,33 @@ pub record Completes (w s o l : List ℕ) (j u n : ℕ) (k : Uses) : Type 0 wher
   -- "The planner's run then has a tree, and it is this one; for n = 1 the steps [..] are the planner's plus 2L + 5X − 1."
   pub direct : 1 ≤ length args → length args ≤ parameters term → (i : ℕ) × Direct term args tree i
   pub steps : length args ≡ 1 → (i : ℕ) → Direct term args tree i → j ≡ i + difference term
-  -- the nodes in use: the rule's, one a digit of the arguments' texts, and "one new node" for each use of leaf and stem
-  pub used-is : u ≡ nodesBy sent term k
+  -- the rule's node, the arguments' nodes, and the table then; from these the applications lead to the table that is left, with u nodes in use
+  pub placed : Placed
+  pub rule-laid : TranslateHad w s term placed
+  pub read-table : Table
+  pub read-nodes : List ℕ
+  pub arguments-read : ReadsHad s (placed .table) (sent .arguments) read-table read-nodes
+  pub node : ℕ
+  pub reached : Reached (frames s) (sent .limit) read-table (placed .node) read-nodes (record { words = run w s o l .table; used = u }) node [] k
+  pub node-has : Has (record { words = run w s o l .table; used = u }) node tree
+  pub used-is : u ≡ endTable (frames s) (sent .limit) read-table (placed .node) read-nodes .used
+  -- at most the rule's nodes, one a digit of the arguments' texts, and "one new node" for each use of leaf and stem; no two are equal (`fine`)
+  pub used-most : u ≤ nodesBy sent term k
   -- "Success also sets the stack to 0, and no other table word than those of new nodes changes."
   pub stack : run w s o l .stack ≡ zeros s
   pub same-length : length (run w s o l .table) ≡ length w
   pub beyond : (i : ℕ) → 2 * u ≤ i → getD (run w s o l .table) i 0 ≡ getD w i 0
   pub fine : Sound (record { words = run w s o l .table; used = u })
 
--- What a Run of the rule t without arguments writes and counts: the translated rule's text, no use of a rule, and that tree's nodes.
+-- What a Run of the rule t without arguments writes and counts: the translated rule's text, no use of a rule, and the nodes of that tree laid into the empty
+-- table.
 pub record Bare (w s o l : List ℕ) (t : Term) (j u n : ℕ) (k : Uses) : Type 0 where
   pub steps-none : j ≡ 0
   pub uses-none : k ≡ noUses
-  pub used-is : u ≡ size (ruleTree t)
+  pub placed : Placed
+  pub rule-laid : lay (record { words = w; used = 0 }) (ruleTree t) ≡ got placed
+  pub used-is : u ≡ placed .table .used
+  pub used-most : u ≤ size (ruleTree t)
   pub digits-are : n ≡ length (text (ruleTree t))
   pub out-is : run w s o l .out ≡ text (ruleTree t) ++ drop n o
 

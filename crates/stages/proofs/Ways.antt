@@ -1,7 +1,7 @@
 -- Laws of Run's stages, one for each way that their code goes. Each stage calls an inner operation on a sound table, so that its outcome is the
 -- operation's. Assumes nothing.
 use Prim.Native.Nat.{ℕ, _+_, _-_, _≤_, _<_}
-use mathlib.Core.Path.{_≡_, refl, sym, ap, _∙_}
+use mathlib.Core.Path.{_≡_, refl, sym, ap, _∙_, subst}
 use mathlib.Core.Bool.{Bool, true, false}
 use mathlib.Core.List.{List, [], _∷_, _++_, append-assoc, append-nil}
 use native.Mathlib.Omega.{arith}
@@ -31,18 +31,28 @@ use Rattle.packet.proofs.Parts.{next-field}
 use Rattle.running.specs.Run.{stopped, afterMade, afterApplied, writes, applies, reads, stages}
 use Rattle.running.specs.declared.Ran.{Ran}
 use Rattle.endings.specs.Ready.{Ready}
+use Rattle.index.specs.Index as indexing
+use Rattle.index.specs.Code.{ReadyMade}
+use Rattle.index.proofs.Ready.{made-ready}
+use Rattle.machine.specs.Code.{ReadyApplied}
 use Rattle.endings.proofs.Ways.{entered-by, is-translate, is-read, read-ready}
-use Rattle.stages.specs.NodesIn.{NodesIn}
+use Rattle.stages.specs.Asked.{NodesIn}
 
 -- an answer that is none
 pub applied-not : {a : Applied} {e : Refusal} → a ≡ applied.Refused e → (n u j : ℕ) (k : Uses) → a ≡ applied.Node n u j k → ⊥
 applied-not p n u j k q = zero-one (cc)
 
+-- where an application gave a node, the table keeps its index
+applied-ready : {a : Applied} {w : List ℕ} {slots : ℕ} {ix : List ℕ} {n u j : ℕ} {k : Uses} → ReadyApplied a w slots ix → a ≡ applied.Node n u j k → indexing.Ready w u slots ix
+unfolding ReadyApplied
+applied-ready {w = w} {slots = slots} {ix = ix} x q = subst (λ (b : Applied). ReadyApplied b w slots ix) q x
+
 -- ---- Apply, of count argument nodes, i of them applied
 
 -- where the applications stand: the rest of them comes to what all of them do
-pub record Applying (nodes : List ℕ) (count limit : ℕ) (o w₀ : List ℕ) (u₀ : ℕ) (s₀ : List ℕ) (v₀ : ℕ) (w s : List ℕ) (v u : ℕ) (k : Uses) (i : ℕ) : Type 0 where
+pub record Applying (nodes : List ℕ) (count limit : ℕ) (o w₀ : List ℕ) (u₀ : ℕ) (s₀ : List ℕ) (v₀ : ℕ) (slots : ℕ) (ix₀ : List ℕ) (w s ix : List ℕ) (v u : ℕ) (k : Uses) (i : ℕ) : Type 0 where
   pub ready : Ready w u s o
+  pub indexed : indexing.Ready w u slots ix
   pub inside : i ≤ count
   pub few : count ≤ length nodes
   pub limited : limit ≤ 1000000
@@ -51,13 +61,15 @@ pub record Applying (nodes : List ℕ) (count limit : ℕ) (o w₀ : List ℕ) (
   pub nodes-in : NodesIn u nodes count
   pub same-table : length w ≡ length w₀
   pub same-stack : length s ≡ length s₀
+  pub same-index : length ix ≡ length ix₀
   pub rest : applies (drop i (take count nodes)) limit w u s o v k ≡ applies (take count nodes) limit w₀ u₀ s₀ o v₀ noUses
 
-pub applies-begin : {nodes : List ℕ} {count limit : ℕ} {o w : List ℕ} {u : ℕ} {s : List ℕ} {v : ℕ} → Ready w u s o → v < u → limit ≤ 1000000 → count ≤ length nodes
-    → NodesIn u nodes count → Applying nodes count limit o w u s v w s v u noUses 0
-applies-begin r h l f n =
+pub applies-begin : {nodes : List ℕ} {count limit : ℕ} {o w : List ℕ} {u : ℕ} {s : List ℕ} {v slots : ℕ} {ix : List ℕ} → Ready w u s o → v < u → limit ≤ 1000000 → count ≤ length nodes
+    → NodesIn u nodes count → indexing.Ready w u slots ix → Applying nodes count limit o w u s v slots ix w s ix v u noUses 0
+applies-begin r h l f n x =
     record {
       ready = r;
+      indexed = x;
       inside = omega arith;
       few = f;
       limited = l;
@@ -66,11 +78,12 @@ applies-begin r h l f n =
       nodes-in = n;
       same-table = refl;
       same-stack = refl;
+      same-index = refl;
       rest = refl;
     }
 
-module _ {nodes : List ℕ} {count limit : ℕ} {o w₀ : List ℕ} {u₀ : ℕ} {s₀ : List ℕ} {v₀ : ℕ} {w s : List ℕ} {v u : ℕ} {k : Uses} {i : ℕ}
-    (p : Applying nodes count limit o w₀ u₀ s₀ v₀ w s v u k i) where
+module _ {nodes : List ℕ} {count limit : ℕ} {o w₀ : List ℕ} {u₀ : ℕ} {s₀ : List ℕ} {v₀ slots : ℕ} {ix₀ w s ix : List ℕ} {v u : ℕ} {k : Uses} {i : ℕ}
+    (p : Applying nodes count limit o w₀ u₀ s₀ v₀ slots ix₀ w s ix v u k i) where
   pub applies-end : count ≤ i → {x : Outcome Ran} → x ≡ writes w u s o v k → x ≡ applies (take count nodes) limit w₀ u₀ s₀ o v₀ noUses
   unfolding applies
   applies-end h q =
@@ -103,16 +116,17 @@ module _ {nodes : List ℕ} {count limit : ℕ} {o w₀ : List ℕ} {u₀ : ℕ}
           let f = apply-follows w u s v (getD nodes i 0) (limit - steps k) v′ u′ m j (rw (← is-apply) q) in
           omega (arith, f .steps-are, f .within-limit, p .within-limit)
 
-      pub applies-next : {v′ u′ m : ℕ} {j : Uses} → a ≡ applied.Node v′ u′ m j → length y ≡ length s
-          → Applying nodes count limit o w₀ u₀ s₀ v₀ z y v′ u′ (k ⊕ j) (i + 1)
+      pub applies-next : {v′ u′ m : ℕ} {j : Uses} {ix′ : List ℕ} → a ≡ applied.Node v′ u′ m j → length y ≡ length s → length ix′ ≡ length ix → ReadyApplied a z slots ix′
+          → Applying nodes count limit o w₀ u₀ s₀ v₀ slots ix₀ z y ix′ v′ u′ (k ⊕ j) (i + 1)
       unfolding applies afterApplied
-      applies-next {v′} {u′} {m} {j} q l =
+      applies-next {v′} {u′} {m} {j} q l n x =
           let f = apply-follows w u s v (getD nodes i 0) (limit - steps k) v′ u′ m j (rw (← is-apply) q) in
           let t : apply w u s v (getD nodes i 0) (limit - steps k) .table ≡ z = rw (← is-apply) in
           let c : length z ≡ length w = ap length (sym t) ∙ f .extends .kept .same-length in
           let b : applies (drop (i + 1) (take count nodes)) limit z u′ y o v′ (k ⊕ j) ≡ applies (drop i (take count nodes)) limit w u s o v k = rw (first, ← is-apply, q) in
           record {
             ready = record { fine = rw t at (f .fine); stack = omega (arith, p .ready .stack); out = p .ready .out };
+            indexed = applied-ready x q;
             inside = omega arith;
             few = p .few;
             limited = p .limited;
@@ -121,6 +135,7 @@ module _ {nodes : List ℕ} {count limit : ℕ} {o w₀ : List ℕ} {u₀ : ℕ}
             nodes-in = λ n h. omega (arith, p .nodes-in n h, f .extends .kept .up);
             same-table = c ∙ p .same-table;
             same-stack = l ∙ p .same-stack;
+            same-index = n ∙ p .same-index;
             rest = b ∙ p .rest;
           }
 
@@ -128,8 +143,9 @@ module _ {nodes : List ℕ} {count limit : ℕ} {o w₀ : List ℕ} {u₀ : ℕ}
 
 -- where the reading stands: the rest of it comes to what all of it does
 pub record Reading (l : List ℕ) (count : ℕ) (o : List ℕ) (next : List ℕ → List ℕ → ℕ → List ℕ → Outcome Ran) (v : ℕ) (w₀ : List ℕ) (u₀ : ℕ) (s₀ : List ℕ) (from : ℕ)
-    (w s nodes : List ℕ) (at u i : ℕ) : Type 0 where
+    (slots : ℕ) (ix₀ : List ℕ) (w s ix nodes : List ℕ) (at u i : ℕ) : Type 0 where
   pub ready : Ready w u s o
+  pub indexed : indexing.Ready w u slots ix
   pub inside : i ≤ count
   pub stand : Stand l at (count - i)
   pub rule-in : v < u
@@ -138,14 +154,16 @@ pub record Reading (l : List ℕ) (count : ℕ) (o : List ℕ) (next : List ℕ 
   pub nodes-in : NodesIn u nodes i
   pub same-table : length w ≡ length w₀
   pub same-stack : length s ≡ length s₀
+  pub same-index : length ix ≡ length ix₀
   pub rest : reads (valuesAt l at (count - i)) w u s o (λ ns. next (take i nodes ++ ns)) ≡ reads (valuesAt l from count) w₀ u₀ s₀ o next
 
-pub reads-begin : {l : List ℕ} {count : ℕ} {o : List ℕ} {next : List ℕ → List ℕ → ℕ → List ℕ → Outcome Ran} {v : ℕ} {w : List ℕ} {u : ℕ} {s : List ℕ} {from : ℕ} {nodes : List ℕ}
-    → Ready w u s o → v < u → count ≤ 8 → Stand l from count → length nodes ≡ 8 → Reading l count o next v w u s from w s nodes from u 0
-reads-begin {count = count} r h f st n =
+pub reads-begin : {l : List ℕ} {count : ℕ} {o : List ℕ} {next : List ℕ → List ℕ → ℕ → List ℕ → Outcome Ran} {v : ℕ} {w : List ℕ} {u : ℕ} {s : List ℕ} {from slots : ℕ} {ix nodes : List ℕ}
+    → Ready w u s o → v < u → count ≤ 8 → Stand l from count → length nodes ≡ 8 → indexing.Ready w u slots ix → Reading l count o next v w u s from slots ix w s ix nodes from u 0
+reads-begin {count = count} r h f st n x =
     let e : count - 0 ≡ count = omega arith in
     record {
       ready = r;
+      indexed = x;
       inside = omega arith;
       stand = rw e st;
       rule-in = h;
@@ -154,11 +172,12 @@ reads-begin {count = count} r h f st n =
       nodes-in = λ i b. absurd (omega arith);
       same-table = refl;
       same-stack = refl;
+      same-index = refl;
       rest = rw e;
     }
 
-module _ {l : List ℕ} {count : ℕ} {o : List ℕ} {next : List ℕ → List ℕ → ℕ → List ℕ → Outcome Ran} {v : ℕ} {w₀ : List ℕ} {u₀ : ℕ} {s₀ : List ℕ} {from : ℕ}
-    {w s nodes : List ℕ} {at u i : ℕ} (p : Reading l count o next v w₀ u₀ s₀ from w s nodes at u i) where
+module _ {l : List ℕ} {count : ℕ} {o : List ℕ} {next : List ℕ → List ℕ → ℕ → List ℕ → Outcome Ran} {v : ℕ} {w₀ : List ℕ} {u₀ : ℕ} {s₀ : List ℕ} {from slots : ℕ}
+    {ix₀ w s ix nodes : List ℕ} {at u i : ℕ} (p : Reading l count o next v w₀ u₀ s₀ from slots ix₀ w s ix nodes at u i) where
   pub reads-end : count ≤ i → {x : Outcome Ran} → x ≡ next (take count nodes) w u s → x ≡ reads (valuesAt l from count) w₀ u₀ s₀ o next
   unfolding reads valuesAt
   reads-end m q =
@@ -180,9 +199,10 @@ module _ {l : List ℕ} {count : ℕ} {o : List ℕ} {next : List ℕ → List �
         let b : x ≡ reads (valuesAt l at (count - i)) w u s o (λ ns. next (take i nodes ++ ns)) = rw (next-field l at count i h (p .stand) .values, ← as-read, q) g in
         b ∙ p .rest
 
-    pub reads-next : {n u′ : ℕ} → a ≡ made.Node n u′ → length y ≡ length s → Reading l count o next v w₀ u₀ s₀ from z y (set nodes i n) (endAt l at) u′ (i + 1)
+    pub reads-next : {n u′ : ℕ} {ix′ : List ℕ} → a ≡ made.Node n u′ → length y ≡ length s → length ix′ ≡ length ix → ReadyMade a z slots ix′
+        → Reading l count o next v w₀ u₀ s₀ from slots ix₀ z y ix′ (set nodes i n) (endAt l at) u′ (i + 1)
     unfolding reads afterMade
-    reads-next {n} {u′} q k =
+    reads-next {n} {u′} q k d x =
         let g = read-ready (p .ready) (valueAt l at) e q k in
         let m : i < length nodes = omega (arith, p .eight, p .few) in
         let c : take (i + 1) (set nodes i n) ≡ take i nodes ++ (n ∷ []) = rw (add-one i, take-suc-set nodes i n m) in
@@ -191,14 +211,16 @@ module _ {l : List ℕ} {count : ℕ} {o : List ℕ} {next : List ℕ → List �
         rw (next-field l at count i h (p .stand) .values, ← as-read, q, c) (simp append-assoc) in
         record {
           ready = g .ready;
+          indexed = made-ready x q;
           inside = omega arith;
           stand = next-field l at count i h (p .stand) .stand;
           rule-in = omega (arith, p .rule-in, g .up);
           eight = rw length-set (p .eight);
           few = p .few;
-          nodes-in = λ j d. go j d (ltb j i) refl (g .up) (g .inside) m;
+          nodes-in = λ j h. go j h (ltb j i) refl (g .up) (g .inside) m;
           same-table = g .same-length ∙ p .same-table;
           same-stack = k ∙ p .same-stack;
+          same-index = d ∙ p .same-index;
           rest = b ∙ p .rest;
         }
       where

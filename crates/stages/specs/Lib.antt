@@ -1,2 +1,2 @@
 -- What the stages ask. Assumes nothing: these are definitions.
-pub mod NodesIn
+pub mod Asked

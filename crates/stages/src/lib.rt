@@ -1,8 +1,8 @@
 // The stages of Run on a packet that passed the checks: Translate, Read of each argument, Apply in order, Write. Each stage is a function that ends
 // in the next one, as in the definition (the crate `running`), and takes its inner answer apart: a refusal clears what was made since Run's entry
 // (the crate `endings`).
-// The table is sound throughout, so each stage is the inner operation, and no node is looked at again. specs/ and the crate
-// `endings` say what the stages ask.
+// The table is sound throughout and keeps its index, so each stage is the inner operation, and no node is looked at again. specs/ and the crates
+// `endings` and `index` say what the stages ask.
 use applying::Applied;
 use calculus::Uses;
 use running::Ran;
@@ -10,13 +10,14 @@ use table::Made;
 use table::Refusal;
 ghost use mathlib.Core.Path.{_≡_};
 ghost use Prim.Native.Nat.{ℕ, _≤_, _<_};
-ghost use lib.ListN.{length, take};
+ghost use lib.ListN.{take};
 ghost use Rattle.calculus.specs.Uses.{noUses};
 ghost use Rattle.table.specs.Outcome.{wholeOut};
-ghost use Rattle.packet.specs.Code.{endAt, Stand, valuesAt, packetAt};
+ghost use Rattle.packet.specs.Code.{Stand, valuesAt, packetAt};
 ghost use Rattle.running.specs.Run.{applies, reads, stages};
 ghost use Rattle.endings.specs.Ready.{Ready};
-ghost use Rattle.stages.specs.NodesIn.{NodesIn};
+ghost use Rattle.index.specs.Index as indexing;
+ghost use Rattle.stages.specs.Asked.{NodesIn, Passed};
 
 // What is to be applied once the rule is translated: its node, to so many arguments, under this step limit.
 struct Applications {
@@ -49,8 +50,11 @@ fn apply_all(
     out: &mut [u8],
     nodes: [usize; 8],
     work: Applications,
+    index: &mut [u32],
+    slots: usize,
 ) -> Ran
-    requires { ⌜ Ready (now table) used (now stack) (now out) × (work .rule < used) × (work .limit ≤ 1000000) × (work .count ≤ 8) × NodesIn used nodes (work .count) ⌝ }
+    requires { ⌜ Ready (now table) used (now stack) (now out) × (work .rule < used) × (work .limit ≤ 1000000) × (work .count ≤ 8) × NodesIn used nodes (work .count)
+        × indexing.Ready (now table) used slots (now index) ⌝ }
     ensures { λ r. ⌜ wholeOut r (now (table .exit)) (now (stack .exit)) (now (out .exit))
         ≡ applies (take (work .count) nodes) (work .limit) (now (table .entry)) used (now (stack .entry)) (now (out .entry)) (work .rule) noUses ⌝ }
 {
@@ -69,7 +73,16 @@ fn apply_all(
     while done < count {
         let argument = nodes[done];
         let left = limit - counts::sum(uses);
-        let applied = machine::apply_nodes(table, in_use, stack, node, argument, left);
+        let applied = machine::apply_nodes(
+            table,
+            in_use,
+            stack,
+            node,
+            argument,
+            left,
+            index,
+            slots,
+        );
         let Applied::Node {
             node: given,
             used: used_then,
@@ -96,8 +109,11 @@ fn read_all(
     packet: &[u8],
     from: usize,
     work: Applications,
+    index: &mut [u32],
+    slots: usize,
 ) -> Ran
-    requires { ⌜ Ready (now table) used (now stack) (now out) × (work .rule < used) × (work .limit ≤ 1000000) × (work .count ≤ 8) × Stand (now packet) from (work .count) ⌝ }
+    requires { ⌜ Ready (now table) used (now stack) (now out) × (work .rule < used) × (work .limit ≤ 1000000) × (work .count ≤ 8) × Stand (now packet) from (work .count)
+        × indexing.Ready (now table) used slots (now index) ⌝ }
     ensures { λ r. ⌜ wholeOut r (now (table .exit)) (now (stack .exit)) (now (out .exit))
         ≡ reads (valuesAt (now (packet .entry)) from (work .count)) (now (table .entry)) used (now (stack .entry)) (now (out .entry))
         (λ ns w u s. applies ns (work .limit) w u s (now (out .entry)) (work .rule) noUses) ⌝ }
@@ -111,7 +127,7 @@ fn read_all(
         let part = packet::part_at(packet, at);
         let start = part.start;
         let end = part.end;
-        let made = reader::read_text(table, in_use, stack, &packet[start..end]);
+        let made = reader::read_text(table, in_use, stack, &packet[start..end], index, slots);
         let Made::Node {
             node,
             used: used_then,
@@ -124,7 +140,7 @@ fn read_all(
         in_use = used_then;
         kept += 1;
     }
-    apply_all(table, in_use, stack, out, nodes, work)
+    apply_all(table, in_use, stack, out, nodes, work, index, slots)
 }
 
 // The stages of Run on a packet that passed the checks. A label is passed over: they are those of the packet without it.
@@ -135,8 +151,10 @@ pub fn run_stages(
     packet: &[u8],
     count: usize,
     limit: usize,
+    index: &mut [u32],
+    slots: usize,
 ) -> Ran
-    requires { ⌜ Ready (now table) 0 (now stack) (now out) × (limit ≤ 1000000) × (count ≤ 8) × (endAt (now packet) 0 ≤ length (now packet)) × Stand (now packet) (endAt (now packet) 0) count ⌝ }
+    requires { ⌜ Passed (now table) (now stack) (now out) (now packet) count limit × indexing.Ready (now table) 0 slots (now index) ⌝ }
     ensures { λ r. ⌜ wholeOut r (now (table .exit)) (now (stack .exit)) (now (out .exit))
         ≡ stages (now (table .entry)) (now (stack .entry)) (now (out .entry))
         (packetAt (now (packet .entry)) count limit 0) ⌝ }
@@ -144,7 +162,7 @@ pub fn run_stages(
     let part = packet::part_at(packet, 0);
     let start = part.start;
     let end = part.end;
-    let made = term::translate_rule(table, 0, stack, &packet[start..end]);
+    let made = term::translate_rule(table, 0, stack, &packet[start..end], index, slots);
     let Made::Node { node, used } = made else {
         return endings::stop(table, 0, stack, endings::made_refusal(made));
     };
@@ -153,5 +171,5 @@ pub fn run_stages(
         count: count,
         limit: limit,
     };
-    read_all(table, used, stack, out, packet, end, work)
+    read_all(table, used, stack, out, packet, end, work, index, slots)
 }

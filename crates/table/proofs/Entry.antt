@@ -1,20 +1,22 @@
 -- What the checks that every operation begins with say of the table, and what a stopped call leaves. Assumes nothing.
-use Prim.Native.Nat.{ℕ, _+_, _*_, _/_, _≤_, _<_}
-use mathlib.Core.Path.{_≡_, refl, sym, ap, _∙_}
+use Prim.Native.Nat.{ℕ, _*_, _≤_}
+use mathlib.Core.Path.{_≡_, refl, sym, _∙_}
 use mathlib.Core.Bool.{Bool, true, false, cond, _&&_}
 use mathlib.Core.List.{List}
 use mathlib.Core.Option.{Option, none, some}
 use native.Mathlib.Omega.{arith}
 use lib.ListN.{length, getD}
-use lib.Dec.{leb}
-use borrow.Author.Tests.{leb-true, le-leb}
-use Rattle.table.specs.Nodes.{Table, capacity, sound, Sound, cleared}
-use Rattle.table.specs.Outcome.{Outcome, Entered, fits, atEntry, unless, stopped, zeros}
+use lib.Seq.{ext-getD}
+use lib.Dec.{leb, ltb}
+use borrow.Author.Tests.{leb-true, le-leb, ltb-true, ltb-false}
+use Rattle.table.specs.Nodes.{Table, capacity, sound, cleared}
+use Rattle.table.specs.Outcome.{Entered, fits, atEntry, unless, stopped}
 use Rattle.table.specs.declared.Refusal.{Refusal}
 use Rattle.table.specs.declared.Refusal.the-variants.{Limits, Broken}
 use Rattle.table.specs.Claims.{Kept, Extends, Undone, EntryLacks}
 use Rattle.table.specs.Claims.EntryLacks.{too-long, is-broken}
 use Rattle.table.specs.Refusal.{number, clears}
+use Rattle.table.proofs.Once.{flawed, unsound}
 use Rattle.table.proofs.Words.{zero-one, and-left, and-right, cleared-below, cleared-inside, cleared-beyond, length-cleared}
 
 pub entered : (within : Bool) (w : List ℕ) (u : ℕ) (s : List ℕ) → atEntry within w u s ≡ none → Entered within w u s
@@ -59,6 +61,46 @@ stopped-kept {t} {z} k h =
       below = λ i l. cleared-below (z .words) (t .used * 2) (z .used * 2) i (omega (arith, k .up)) l ∙ k .below i l;
     }
 
+-- the same where the table became full: all words from the first new node to the capacity
+pub full-kept : (t : Table) → t .used ≤ capacity (t .words) → Kept t (record { words = cleared (t .words) (t .used * 2) (capacity (t .words) * 2); used = t .used })
+full-kept t h =
+    stopped-kept {z = record { words = t .words; used = capacity (t .words) }} (record { up = h; same-length = refl; below = λ i l. refl }) (omega arith)
+
+-- the words of the nodes made since the table was t are cleared: of t's own words no other changes
+pub cleared-back : {t z : Table} → Extends t z → z .used ≤ capacity (z .words)
+    → cleared (z .words) (t .used * 2) (z .used * 2) ≡ cleared (t .words) (t .used * 2) (z .used * 2)
+cleared-back {t} {z} x h = ext-getD 0 (cleared (z .words) a b) (cleared (t .words) a b) (stopped-kept (x .kept) h .same-length ∙ sym same) (λ i l. go i (ltb i a) (ltb i b) refl refl)
+  where
+    a : ℕ
+    a = t .used * 2
+
+    b : ℕ
+    b = z .used * 2
+
+    up : a ≤ b
+    up = omega (arith, x .kept .up)
+
+    long : b ≤ length (z .words)
+    long = omega arith
+
+    as-long : b ≤ length (t .words)
+    as-long = omega (arith, x .kept .same-length)
+
+    same : length (cleared (t .words) a b) ≡ length (t .words)
+    same = length-cleared (t .words) a b up as-long
+
+    go : (i : ℕ) (p q : Bool) → ltb i a ≡ p → ltb i b ≡ q → getD (cleared (z .words) a b) i 0 ≡ getD (cleared (t .words) a b) i 0
+    go i true q d e =
+        let l = ltb-true i a d in
+        cleared-below (z .words) a b i (omega arith) l ∙ x .kept .below i l ∙ sym (cleared-below (t .words) a b i (omega arith) l)
+    go i false true d e =
+        let l = ltb-false i a d in
+        let k = ltb-true i b e in
+        cleared-inside (z .words) a b i l k long ∙ sym (cleared-inside (t .words) a b i l k as-long)
+    go i false false d e =
+        let k = ltb-false i b e in
+        cleared-beyond (z .words) a b i up k long ∙ x .beyond i k ∙ sym (cleared-beyond (t .words) a b i up k as-long)
+
 -- 1 comes before 2, each exactly on its condition, and both leave memory as found.
 pub entry-lacks : (within : Bool) (w : List ℕ) (u : ℕ) (s : List ℕ) {e : Refusal} → atEntry within w u s ≡ some e → EntryLacks within w u s e
 unfolding atEntry
@@ -66,13 +108,13 @@ entry-lacks within w u s {e} = go (within && fits w u s) (sound w u) refl refl
   where
     go : (a b : Bool) → (within && fits w u s) ≡ a → sound w u ≡ b → cond a (cond b none (some Broken)) (some Limits) ≡ some e → EntryLacks within w u s e
     go true true p q r = zero-one (cc)
-    go true false p q r = let c : Broken ≡ e = cc in rw (← c) (is-broken p q)
+    go true false p q r = let c : Broken ≡ e = cc in rw (← c) (is-broken p (flawed w u q))
     go false b p q r = let c : Limits ≡ e = cc in rw (← c) (too-long p)
 
 pub lacks-entry : {within : Bool} {w : List ℕ} {u : ℕ} {s : List ℕ} {e : Refusal} → EntryLacks within w u s e → atEntry within w u s ≡ some e
 unfolding atEntry
 lacks-entry (too-long h) = rw h
-lacks-entry (is-broken h k) = rw (h, k)
+lacks-entry {w = w} {u = u} (is-broken h k) = rw (h, unsound w u k)
 
 pub entry-keeps : {within : Bool} {w : List ℕ} {u : ℕ} {s : List ℕ} {e : Refusal} → EntryLacks within w u s e → clears e ≡ false
 unfolding clears number

@@ -1,89 +1,94 @@
--- What a tree laid out gives, and what it takes: the laws that Read's and Translate's outcomes share. Assumes nothing.
+-- What a tree laid out gives, and what it lacks: the laws that Read's and Translate's outcomes share. Assumes nothing.
 use Prim.Native.Nat.{ℕ, _+_, _-_, _*_, _≤_, _<_}
 use mathlib.Core.Path.{_≡_, refl, sym, ap, _∙_, subst}
 use mathlib.Core.Bool.{Bool, true, false, cond}
 use mathlib.Core.List.{List}
-use mathlib.Core.Option.{none, some}
 use native.Mathlib.Omega.{arith}
 use lib.Dec.{ltb}
 use borrow.Author.Tests.{lt-ltb, le-ltb, ltb-true, ltb-false}
 use Rattle.calculus.specs.Tree.{Tree, size}
-use Rattle.table.specs.Nodes.{Table, Placed, capacity, Sound, lay}
-use Rattle.table.specs.Outcome.{Outcome, whole, frames, zeros, unless, stopped, placed, laid, lacking, laidWithin}
+use Rattle.table.specs.Nodes.{Table, Placed, Making, got, full, capacity, Sound, lay, cleared}
+use Rattle.table.specs.Outcome.{Outcome, whole, frames, zeros, stopped, placed, settled, laid, laidWithin}
 use Rattle.table.specs.declared.Refusal.{Refusal}
 use Rattle.table.specs.declared.Refusal.the-variants.{Nodes, Frames}
 use Rattle.table.specs.declared.Made.{Made}
 use Rattle.table.specs.declared.Made.the-variants.{Node, Refused}
-use Rattle.table.specs.Claims.{Places, Lays, Room}
+use Rattle.table.specs.Claims.{Places, Lays, Room, Filled}
 use Rattle.table.specs.Claims.Room.{no-nodes, no-frames, enough}
-use Rattle.table.proofs.Words.{cleared-none}
-use Rattle.table.proofs.Making.{lay-places, lay-used, lay-node}
+use Rattle.table.proofs.Words.{zero-one, cleared-none}
+use Rattle.table.proofs.Making.{lay-places, lay-most}
+use Rattle.table.proofs.Entry.{cleared-back}
 
 -- no refusal is a node
 pub refused-made : {A : Type 0} {e : Refusal} {v u : ℕ} → Refused e ≡ Node v u → A
-refused-made q = let n : _≡_ {A = ℕ} 0 1 = cc in absurd (omega arith)
+refused-made q = zero-one (cc)
 
-pub laid-gives : (w : List ℕ) (u : ℕ) (s : List ℕ) (x : Tree) (v u′ : ℕ) → Sound (record { words = w; used = u }) → size x ≤ capacity w - u
-    → laid w u s x .answer ≡ Node v u′ → Lays w u x (laid w u s x) v u′
-unfolding laid placed
-laid-gives w u s x v u′ f h e =
+-- what is placed answers the node and the count
+pub placed-node : (m : Placed) (s : List ℕ) {v u′ : ℕ} → placed m s .answer ≡ Node v u′ → (m .node ≡ v) × (m .table .used ≡ u′)
+unfolding placed
+placed-node m s e = (cc, cc)
+
+pub placed-answer : (m : Placed) (s : List ℕ) → placed m s .answer ≡ Node (m .node) (m .table .used)
+unfolding placed
+placed-answer m s = refl
+
+pub placed-stack : (m : Placed) (s : List ℕ) → placed m s .stack ≡ zeros s
+unfolding placed
+placed-stack m s = refl
+
+pub placed-words : (m : Placed) (s : List ℕ) → placed m s .table ≡ m .table .words
+unfolding placed
+placed-words m s = refl
+
+-- what the outcome of a tree that is placed says
+pub placed-gives : (w : List ℕ) (u : ℕ) (s : List ℕ) (x : Tree) (v u′ : ℕ) {m : Placed} {o : Outcome Made} → Sound (record { words = w; used = u })
+    → lay (record { words = w; used = u }) x ≡ got m → o ≡ placed m s → o .answer ≡ Node v u′ → Lays w u x o v u′
+unfolding placed
+placed-gives w u s x v u′ {m} {o} f l q e =
     let t : Table = record { words = w; used = u } in
-    let m : Placed = lay t x in
-    let a : m .node ≡ v = cc in
-    let b : m .table .used ≡ u′ = cc in
-    let p : Places t (record { table = record { words = m .table .words; used = u′ }; node = v }) x =
-    subst (λ (k : ℕ). Places t (record { table = record { words = m .table .words; used = u′ }; node = k }) x) a
-    (subst (λ (k : ℕ). Places t (record { table = record { words = m .table .words; used = k }; node = m .node }) x) b (lay-places f x (omega (arith, f .within)))) in
-    record { places = p; node-is = omega (arith, lay-node t x, lay-used t x); used-is = omega (arith, lay-used t x) }
+    let a : m .node ≡ v = let y : Node (m .node) (m .table .used) ≡ Node v u′ = sym (ap (λ (z : Outcome Made). z .answer) q) ∙ e in cc in
+    let b : m .table .used ≡ u′ = let y : Node (m .node) (m .table .used) ≡ Node v u′ = sym (ap (λ (z : Outcome Made). z .answer) q) ∙ e in cc in
+    let c : m .table .words ≡ o .table = sym (ap (λ (z : Outcome Made). z .table) q) in
+    let p : Places t (record { table = record { words = o .table; used = u′ }; node = v }) x =
+    subst (λ (k : ℕ). Places t (record { table = record { words = o .table; used = u′ }; node = k }) x) a
+    (subst (λ (k : ℕ). Places t (record { table = record { words = o .table; used = k }; node = m .node }) x) b
+    (subst (λ (k : List ℕ). Places t (record { table = record { words = k; used = m .table .used }; node = m .node }) x) c (lay-places f x l))) in
+    record { places = p; used-most = omega (arith, lay-most t x l) }
 
--- the node and the count that a tree laid out answers
-pub laid-answer : (w : List ℕ) (u : ℕ) (s : List ℕ) (x : Tree) → laid w u s x .answer ≡ Node (u + size x - 1) (u + size x)
-unfolding laid placed
-laid-answer w u s x =
-    let t : Table = record { words = w; used = u } in
-    let a : lay t x .table .used ≡ u + size x = lay-used t x in
-    let b : lay t x .node ≡ u + size x - 1 = omega (arith, lay-node t x) in
-    rw (a, b)
+-- "the words of the nodes made in the call" where a table became full: all from the first new node to the capacity
+pub full-outcome : (w : List ℕ) (u : ℕ) (s : List ℕ) {z : Table} → Filled (record { words = w; used = u }) z
+    → stopped (Refused Nodes) z u s ≡ whole (Refused Nodes) (cleared w (u * 2) (capacity w * 2)) (zeros s)
+unfolding stopped
+full-outcome w u s {z} f =
+    ap (λ (k : List ℕ). whole (Refused Nodes) k (zeros s))
+    (cleared-back (f .extends) (f .fine .within) ∙ ap (λ (k : ℕ). cleared w (u * 2) (k * 2)) (f .all-used))
 
-pub laid-stack : (w : List ℕ) (u : ℕ) (s : List ℕ) (x : Tree) → laid w u s x .stack ≡ zeros s
-unfolding laid placed
-laid-stack w u s x = refl
+-- the two kinds of a tree laid out
+pub laid-got : (w : List ℕ) (u : ℕ) (s : List ℕ) (x : Tree) {m : Placed} → lay (record { words = w; used = u }) x ≡ got m → laid w u s x ≡ placed m s
+unfolding laid settled
+laid-got w u s x e = rw e
 
-module _ (w : List ℕ) (u : ℕ) (s : List ℕ) (nodes held : ℕ) (x : Tree) where
-  -- a refusal for want of room: nothing was made, so the table is as found
-  pub room-refused : {e : Refusal} → some e ≡ lacking w u s nodes held → whole (Refused e) w (zeros s) ≡ laidWithin w u s nodes held x
+pub laid-full : (w : List ℕ) (u : ℕ) (s : List ℕ) (x : Tree) {z : Table} → lay (record { words = w; used = u }) x ≡ full z → laid w u s x ≡ stopped (Refused Nodes) z u s
+unfolding laid settled
+laid-full w u s x e = rw e
+
+module _ (w : List ℕ) (u : ℕ) (s : List ℕ) (held : ℕ) (x : Tree) where
+  -- a refusal for want of frames: nothing was made, so the table is as found
+  pub frames-refused : frames s < held → whole (Refused Frames) w (zeros s) ≡ laidWithin w u s held x
   unfolding laidWithin stopped
-  room-refused q = rw (← q, cleared-none w (u * 2))
+  frames-refused q = rw (lt-ltb (frames s) held q, cleared-none w (u * 2))
 
-  pub room-case : Room w u s nodes held x (laidWithin w u s nodes held x)
-  unfolding laidWithin stopped lacking
-  room-case = go (ltb (capacity w - u) nodes) (ltb (frames s) held) refl refl
+  pub room-laid : held ≤ frames s → laid w u s x ≡ laidWithin w u s held x
+  unfolding laidWithin
+  room-laid q = rw (le-ltb (frames s) held q)
+
+  pub room-case : Room w u s held x (laidWithin w u s held x)
+  room-case = go (ltb (frames s) held) refl
     where
-      none-made : (e : Refusal) → stopped (Refused e) (record { words = w; used = u }) u s ≡ whole (Refused e) w (zeros s)
-      none-made e = rw (cleared-none w (u * 2))
+      at : held ≤ frames s → (y : Making) → lay (record { words = w; used = u }) x ≡ y → Room w u s held x (laidWithin w u s held x)
+      at h (got m) e = enough h e (sym (room-laid h) ∙ laid-got w u s x e)
+      at h (full z) e = no-nodes h e (sym (room-laid h) ∙ laid-full w u s x e)
 
-      go : (a b : Bool) → ltb (capacity w - u) nodes ≡ a → ltb (frames s) held ≡ b
-          → Room w u s nodes held x (unless (cond a (some Nodes) (cond b (some Frames) none)) (λ e. stopped (Refused e) (record { words = w; used = u }) u s) (laid w u s x))
-      go true b f g = no-nodes (ltb-true (capacity w - u) nodes f) (none-made Nodes)
-      go false true f g = no-frames (ltb-false (capacity w - u) nodes f) (ltb-true (frames s) held g) (none-made Frames)
-      go false false f g = enough (ltb-false (capacity w - u) nodes f) (ltb-false (frames s) held g) refl
-
-  -- where nothing is lacking, there is room
-  pub room-enough : none ≡ lacking w u s nodes held → (nodes ≤ capacity w - u) × (held ≤ frames s)
-  unfolding lacking
-  room-enough = go (ltb (capacity w - u) nodes) (ltb (frames s) held) refl refl
-    where
-      go : (a b : Bool) → ltb (capacity w - u) nodes ≡ a → ltb (frames s) held ≡ b → none ≡ cond a (some Nodes) (cond b (some Frames) none)
-          → (nodes ≤ capacity w - u) × (held ≤ frames s)
-      go true b f g q = let n : _≡_ {A = ℕ} 0 1 = cc in absurd (omega arith)
-      go false true f g q = let n : _≡_ {A = ℕ} 0 1 = cc in absurd (omega arith)
-      go false false f g q = (ltb-false (capacity w - u) nodes f, ltb-false (frames s) held g)
-
-  module _ (h : nodes ≤ capacity w - u) (k : held ≤ frames s) where
-    pub has-room : none ≡ lacking w u s nodes held
-    unfolding lacking
-    has-room = rw (le-ltb (capacity w - u) nodes h, le-ltb (frames s) held k)
-
-    pub room-laid : laid w u s x ≡ laidWithin w u s nodes held x
-    unfolding laidWithin
-    room-laid = rw (← has-room)
+      go : (a : Bool) → ltb (frames s) held ≡ a → Room w u s held x (laidWithin w u s held x)
+      go true f = let h = ltb-true (frames s) held f in no-frames h (sym (frames-refused h))
+      go false f = at (ltb-false (frames s) held f) (lay (record { words = w; used = u }) x) refl

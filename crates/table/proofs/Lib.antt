@@ -2,6 +2,9 @@
 pub mod Words
 pub mod Trees
 pub mod Making
+pub mod Once
+pub mod Subtrees
 pub mod Entry
 pub mod Laid
+pub mod Same
 pub mod Vectors

@@ -8,8 +8,8 @@ use native.Mathlib.Numerals.{add-one}
 use lib.ListN.{length, getD}
 use Rattle.calculus.specs.Tree.{Tree, leaf, stem, fork}
 use Rattle.table.specs.Nodes.{Table, first, second, sound, Sound, branches, treeTo, treeAt}
-use Rattle.table.specs.Claims.{Kept, Extends}
-use Rattle.table.proofs.Words.{Unbroken, sound-node}
+use Rattle.table.specs.Claims.{Kept, Extends, Unbroken}
+use Rattle.table.proofs.Words.{sound-node}
 
 -- the tree of a node depends on the trees of its branches alone
 pub same-branches : (f g : ℕ → Tree) (i a b : ℕ) → Unbroken i a b → ((j : ℕ) → j < i → f j ≡ g j) → branches f a b ≡ branches g a b

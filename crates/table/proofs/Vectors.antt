@@ -1,12 +1,15 @@
--- Worked examples of the definitions that no theorem of this crate pins: the refusals' numbers, the order of the nodes. Assumes nothing.
+-- Worked examples: the numbers of refusals and answers, which no theorem pins; nodes found, made in order or without a place; nodes that are equal. Assumes
+-- nothing.
 use Prim.Native.Nat.{ℕ}
 use mathlib.Core.Path.{_≡_, refl}
 use mathlib.Core.Bool.{true, false}
 use mathlib.Core.List.{List, [], _∷_, map}
 use lib.ListN.{replicate}
 use Rattle.calculus.specs.Tree.{Tree, leaf, stem, fork}
-use Rattle.table.specs.Nodes.{Table, make, lay}
+use Rattle.table.specs.Nodes.{Table, Placed, got, full, broken, hasWords, find, isNone, sound, newNode, orNew, make, andThen, lay}
 use Rattle.table.specs.Refusal.{number, refusedNumbers, madeNumbers, clears}
+use Rattle.table.specs.Same.{sameNumbers}
+use Rattle.table.specs.declared.Compared.the-variants as compared
 use Rattle.table.specs.declared.Made.the-variants.{Refused}
 use Rattle.table.specs.declared.Made.the-variants as made
 use Rattle.table.specs.declared.Refusal.the-variants.{Limits, Broken, Node, Text, Rule, Packet, Steps, Nodes, Frames, Out, Label, RuleText}
@@ -29,7 +32,30 @@ pub answers : (madeNumbers 5 (Refused Nodes) ≡ record { refusal = 8; node = 0;
 unfolding madeNumbers refusedNumbers number
 answers = (refl, refl)
 
--- 2010 laid out from node 1 on: the leaf and the stem of the second branch, the leaf of the first, then their fork
-pub order : lay (record { words = replicate 10 0; used = 1 }) (fork leaf (stem leaf)) .table .words ≡ 0 ∷ 0 ∷ 0 ∷ 0 ∷ 2 ∷ 0 ∷ 0 ∷ 0 ∷ 4 ∷ 3 ∷ []
-unfolding lay make
+-- 2010 where node 0 is a leaf: the leaf of the second branch is there, its stem is made, the leaf of the first is there, then their fork is made
+pub shared : lay (record { words = replicate 8 0; used = 1 }) (fork leaf (stem leaf))
+    ≡ got (record { table = record { words = 0 ∷ 0 ∷ 1 ∷ 0 ∷ 1 ∷ 2 ∷ 0 ∷ 0 ∷ []; used = 3 }; node = 2 })
+unfolding lay make orNew newNode andThen find hasWords
+shared = refl
+
+-- 210200 in an empty table: the leaf and the fork of the second branch, the stem of the first, then the whole
+pub order : lay (record { words = replicate 8 0; used = 0 }) (fork (stem leaf) (fork leaf leaf))
+    ≡ got (record { table = record { words = 0 ∷ 0 ∷ 1 ∷ 1 ∷ 1 ∷ 0 ∷ 3 ∷ 2 ∷ []; used = 4 }; node = 3 })
+unfolding lay make orNew newNode andThen find hasWords
 order = refl
+
+-- the same with one node fewer: the whole has no place
+pub no-place : lay (record { words = replicate 6 0; used = 0 }) (fork (stem leaf) (fork leaf leaf))
+    ≡ full (record { words = 0 ∷ 0 ∷ 1 ∷ 1 ∷ 1 ∷ 0 ∷ []; used = 3 })
+unfolding lay make orNew newNode andThen find hasWords
+no-place = refl
+
+-- Two nodes with the same words are refused; nodes that share one word are not.
+pub equals : (sound (0 ∷ 0 ∷ 1 ∷ 0 ∷ 1 ∷ 0 ∷ []) 3 ≡ false) × (sound (0 ∷ 0 ∷ 1 ∷ 0 ∷ 1 ∷ 1 ∷ []) 3 ≡ true)
+unfolding sound broken find hasWords isNone
+equals = (refl, refl)
+
+-- the numbers of a comparison
+pub comparisons : map sameNumbers (compared.Equal ∷ compared.Different ∷ compared.Refused Node ∷ []) ≡ (0 ∷ 1 ∷ []) ∷ (0 ∷ 0 ∷ []) ∷ (3 ∷ 0 ∷ []) ∷ []
+unfolding sameNumbers number
+comparisons = refl

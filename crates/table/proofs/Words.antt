@@ -1,15 +1,17 @@
--- Laws of a table's words: what is known of a sound node, a node's words once it is made, words cleared. Assumes nothing.
+-- Laws of a table's words: the node with given words, what is known of a sound node, a node's words once it is made, words cleared. Assumes nothing.
 use Prim.Native.Nat.{ℕ, zero, suc, _+_, _-_, _*_, _/_, _≤_, _<_}
 use mathlib.Core.Path.{_≡_, refl, sym, ap, _∙_}
 use mathlib.Core.Bool.{Bool, true, false, cond, not, _&&_, _||_}
 use mathlib.Core.List.{List, [], _∷_, _++_, append-assoc, append-nil}
+use mathlib.Core.Option.{Option, none, some}
 use native.Mathlib.Omega.{arith}
 use native.Mathlib.Numerals.{add-one}
 use lib.ListN.{length, getD, set, take, drop, replicate, length-append, length-take, length-drop, length-set, length-replicate, getD-replicate, take-append-drop, replicate-append-replicate, List·getD-append}
 use lib.Seq.{drop-length, drop-cons, set-at, getD-set-same, getD-set-other, getD-take, getD-drop, getD-append-add, length-take-le}
 use lib.Dec.{ltb, leb, eqb}
 use borrow.Author.Tests.{ltb-false, eqb-true, eqb-false, le-ltb, eq-eqb, ne-eqb, not-true}
-use Rattle.table.specs.Nodes.{first, second, broken, sound, cleared}
+use Rattle.table.specs.Nodes.{first, second, broken, hasWords, find, isNone, sound, cleared}
+use Rattle.table.specs.Claims.{Unbroken}
 
 -- What follows where `cc` finds two constructors said to be equal: it proves 0 ≡ 1 from them.
 pub zero-one : {A : Type 0} → _≡_ {A = ℕ} 0 1 → A
@@ -34,11 +36,79 @@ or-right true true e = e
 or-right true false e = refl
 or-right false b e = e
 
--- What is known of a node i with words a and b that is not broken.
-pub record Unbroken (i a b : ℕ) : Type 0 where
-  pub first-in : a ≤ i
-  pub second-in : b ≤ i
-  pub no-gap : a ≡ 0 → b ≡ 0
+-- two Bools that are told apart
+pub told-apart : {A : Type 0} {x : Bool} → x ≡ true → x ≡ false → A
+told-apart p q = zero-one (cc)
+
+-- the two words of a node
+pub same-first : (w : List ℕ) (i a b : ℕ) → hasWords w i a b ≡ true → first w i ≡ a
+unfolding hasWords
+same-first w i a b e = eqb-true (first w i) a (and-left (eqb (first w i) a) (eqb (second w i) b) e)
+
+pub same-second : (w : List ℕ) (i a b : ℕ) → hasWords w i a b ≡ true → second w i ≡ b
+unfolding hasWords
+same-second w i a b e = eqb-true (second w i) b (and-right (eqb (first w i) a) (eqb (second w i) b) e)
+
+pub has-words : (w : List ℕ) (i a b : ℕ) → first w i ≡ a → second w i ≡ b → hasWords w i a b ≡ true
+unfolding hasWords
+has-words w i a b p q = rw (eq-eqb (first w i) a p, eq-eqb (second w i) b q)
+
+-- where none has the words, none is found
+pub find-none : (w : List ℕ) (u a b : ℕ) → ((i : ℕ) → i < u → first w i ≡ a → second w i ≡ b → ⊥) → find w u a b ≡ none
+unfolding find
+find-none w zero a b h = refl
+find-none w (suc k) a b h = go (hasWords w k a b) refl (find-none w k a b (λ i l. h i (omega arith)))
+  where
+    go : (z : Bool) → hasWords w k a b ≡ z → find w k a b ≡ none → cond z (some k) (find w k a b) ≡ none
+    go true e r = absurd (h k (omega arith) (same-first w k a b e) (same-second w k a b e))
+    go false e r = r
+
+-- what is found is a used node with the words
+pub record Finds (w : List ℕ) (u a b n : ℕ) : Type 0 where
+  pub inside : n < u
+  pub first-is : first w n ≡ a
+  pub second-is : second w n ≡ b
+
+pub finds : (w : List ℕ) (u a b n : ℕ) → find w u a b ≡ some n → Finds w u a b n
+unfolding find
+finds w zero a b n e = zero-one (cc)
+finds w (suc k) a b n e = go (hasWords w k a b) refl e (λ f. finds w k a b n f)
+  where
+    go : (z : Bool) → hasWords w k a b ≡ z → cond z (some k) (find w k a b) ≡ some n → (find w k a b ≡ some n → Finds w k a b n) → Finds w (suc k) a b n
+    go true s f r =
+        let q : k ≡ n = cc in
+        rw (← q) (record { inside = omega arith; first-is = same-first w k a b s; second-is = same-second w k a b s })
+    go false s f r =
+        let x = r f in
+        record { inside = omega (arith, x .inside); first-is = x .first-is; second-is = x .second-is }
+
+-- where none is found, none has the words
+pub none-has : (w : List ℕ) (u a b : ℕ) → find w u a b ≡ none → (i : ℕ) → i < u → first w i ≡ a → second w i ≡ b → ⊥
+unfolding find
+none-has w zero a b e i h p q = omega arith
+none-has w (suc k) a b e i h p q = go (hasWords w k a b) refl e (λ f l. none-has w k a b f i l p q)
+  where
+    go : (z : Bool) → hasWords w k a b ≡ z → cond z (some k) (find w k a b) ≡ none → (find w k a b ≡ none → i < k → ⊥) → ⊥
+    go true s f r = zero-one (cc)
+    go false s f r = at (eqb i k) refl
+      where
+        at : (z : Bool) → eqb i k ≡ z → ⊥
+        at true z = told-apart (has-words w k a b (rw (← eqb-true i k z) p) (rw (← eqb-true i k z) q)) s
+        at false z = let n : (i ≡ k → ⊥) = eqb-false i k z in r f (omega arith)
+
+pub is-none : (o : Option ℕ) → isNone o ≡ true → o ≡ none
+unfolding isNone
+is-none none e = refl
+is-none (some n) e = zero-one (cc)
+
+-- the node found in two tables that agree on their words
+pub find-same : (w z : List ℕ) (u a b : ℕ) → ((i : ℕ) → i < u * 2 → getD z i 0 ≡ getD w i 0) → find z u a b ≡ find w u a b
+unfolding find hasWords
+find-same w z zero a b h = refl
+find-same w z (suc k) a b h =
+    let p : getD z (k * 2) 0 ≡ getD w (k * 2) 0 = h (k * 2) (omega arith) in
+    let q : getD z (k * 2 + 1) 0 ≡ getD w (k * 2 + 1) 0 = h (k * 2 + 1) (omega arith) in
+    rw (p, q, find-same w z k a b (λ i l. h i (omega arith)))
 
 pub unbroken : (i a b : ℕ) → broken i a b ≡ false → Unbroken i a b
 unfolding broken
@@ -62,16 +132,56 @@ not-broken i a b o = rw (le-ltb i a (o .first-in), le-ltb i b (o .second-in)) (g
     go true e = rw (eq-eqb b 0 (o .no-gap (eqb-true a 0 e)))
     go false e = refl
 
--- each node of a sound table
-pub sound-node : (w : List ℕ) (u i : ℕ) → i < u → sound w u ≡ true → Unbroken i (first w i) (second w i)
+-- what is known of the last node of a sound table, and of those before it
+pub record LastSound (w : List ℕ) (k : ℕ) : Type 0 where
+  pub unbroken-last : broken k (first w k) (second w k) ≡ false
+  pub only : find w k (first w k) (second w k) ≡ none
+  pub before : sound w k ≡ true
+
+pub last-sound : (w : List ℕ) (k : ℕ) → sound w (suc k) ≡ true → LastSound w k
 unfolding sound
-sound-node w zero i h e = absurd (omega arith)
-sound-node w (suc k) i h e =
-    go (eqb i k) refl (λ (l : i < k). sound-node w k i l (and-right (not (broken k (first w k) (second w k))) (sound w k) e))
+last-sound w k e =
+    let x = not (broken k (first w k) (second w k)) in
+    let y = isNone (find w k (first w k) (second w k)) in
+    let r = and-right x (y && sound w k) e in
+    record {
+      unbroken-last = borrow.Author.Tests.not-true _ (and-left x (y && sound w k) e);
+      only = is-none _ (and-left y (sound w k) r);
+      before = and-right y (sound w k) r;
+    }
+
+pub sound-more : (w : List ℕ) (k : ℕ) → LastSound w k → sound w (k + 1) ≡ true
+unfolding sound isNone
+sound-more w k x = rw (add-one k, x .unbroken-last, x .only, x .before)
+
+-- each node of a sound table
+pub sound-below : (w : List ℕ) (u i : ℕ) → i < u → sound w u ≡ true → LastSound w i
+sound-below w zero i h e = absurd (omega arith)
+sound-below w (suc k) i h e = go (eqb i k) refl (λ (l : i < k). sound-below w k i l (last-sound w k e .before))
   where
-    go : (z : Bool) → eqb i k ≡ z → (i < k → Unbroken i (first w i) (second w i)) → Unbroken i (first w i) (second w i)
-    go true z r = rw (eqb-true i k z) (unbroken k (first w k) (second w k) (borrow.Author.Tests.not-true _ (and-left (not (broken k (first w k) (second w k))) (sound w k) e)))
+    go : (z : Bool) → eqb i k ≡ z → (i < k → LastSound w i) → LastSound w i
+    go true z r = rw (eqb-true i k z) (last-sound w k e)
     go false z r = let n : (i ≡ k → ⊥) = eqb-false i k z in r (omega arith)
+
+pub sound-node : (w : List ℕ) (u i : ℕ) → i < u → sound w u ≡ true → Unbroken i (first w i) (second w i)
+sound-node w u i h e = unbroken i (first w i) (second w i) (sound-below w u i h e .unbroken-last)
+
+-- "two equal used nodes": nodes with the same words are one in a sound table
+pub same-words : (w : List ℕ) (u i j : ℕ) → sound w u ≡ true → i < u → j < u → first w i ≡ first w j → second w i ≡ second w j → i ≡ j
+same-words w u i j e h k p q = go (ltb i j) (ltb j i) refl refl
+  where
+    go : (y z : Bool) → ltb i j ≡ y → ltb j i ≡ z → i ≡ j
+    go true z l m = absurd (none-has w j (first w j) (second w j) (sound-below w u j k e .only) i (borrow.Author.Tests.ltb-true i j l) p q)
+    go false true l m = absurd (none-has w i (first w i) (second w i) (sound-below w u i h e .only) j (borrow.Author.Tests.ltb-true j i m) (sym p) (sym q))
+    go false false l m = omega (arith, ltb-false i j l, ltb-false j i m)
+
+-- the one node with the words is the node found
+pub find-has : (w : List ℕ) (u a b n : ℕ) → sound w u ≡ true → n < u → first w n ≡ a → second w n ≡ b → find w u a b ≡ some n
+find-has w u a b n e h p q = go (find w u a b) refl
+  where
+    go : (o : Option ℕ) → find w u a b ≡ o → o ≡ some n
+    go none f = absurd (none-has w u a b f n h p q)
+    go (some m) f = let x = finds w u a b m f in ap some (same-words w u m n e (x .inside) h (x .first-is ∙ sym p) (x .second-is ∙ sym q))
 
 -- the nodes below u are sound in two tables that agree on their words
 pub sound-same : (w z : List ℕ) (u : ℕ) → ((i : ℕ) → i < u * 2 → getD z i 0 ≡ getD w i 0) → sound z u ≡ sound w u
@@ -80,7 +190,7 @@ sound-same w z zero h = refl
 sound-same w z (suc k) h =
     let a : getD z (k * 2) 0 ≡ getD w (k * 2) 0 = h (k * 2) (omega arith) in
     let b : getD z (k * 2 + 1) 0 ≡ getD w (k * 2 + 1) 0 = h (k * 2 + 1) (omega arith) in
-    rw (a, b, sound-same w z k (λ i l. h i (omega arith)))
+    rw (a, b, find-same w z k (first w k) (second w k) (λ i l. h i (omega arith)), sound-same w z k (λ i l. h i (omega arith)))
 
 -- the words of a node that is written, and all others
 abbrev pub wrote : List ℕ → ℕ → ℕ → ℕ → List ℕ
@@ -99,11 +209,17 @@ wrote-second w i a b h = getD-set-same (set w (i * 2) a) (i * 2 + 1) b 0 (simp l
 pub length-wrote : (w : List ℕ) (i a b : ℕ) → length (wrote w i a b) ≡ length w
 length-wrote w i a b = length-set (set w (i * 2) a) (i * 2 + 1) b ∙ length-set w (i * 2) a
 
-pub sound-wrote : (w : List ℕ) (u a b : ℕ) → u * 2 + 1 < length w → Unbroken u a b → sound w u ≡ true → sound (wrote w u a b) (u + 1) ≡ true
-unfolding sound
-sound-wrote w u a b h k e =
-    rw (add-one u, wrote-first w u a b h, wrote-second w u a b h, not-broken u a b k)
-    (sound-same w (wrote w u a b) u (λ i l. wrote-other w u a b i (λ q. omega arith) (λ q. omega arith)) ∙ e)
+pub sound-wrote : (w : List ℕ) (u a b : ℕ) → u * 2 + 1 < length w → Unbroken u a b → find w u a b ≡ none → sound w u ≡ true → sound (wrote w u a b) (u + 1) ≡ true
+sound-wrote w u a b h k f e =
+    let p = wrote-first w u a b h in
+    let q = wrote-second w u a b h in
+    let o : ((i : ℕ) → i < u * 2 → getD (wrote w u a b) i 0 ≡ getD w i 0) = λ i l. wrote-other w u a b i (λ r. omega arith) (λ r. omega arith) in
+    sound-more (wrote w u a b) u
+    (record {
+      unbroken-last = rw (p, q) (not-broken u a b k);
+      only = rw (p, q) (find-same w (wrote w u a b) u a b o ∙ f);
+      before = sound-same w (wrote w u a b) u o ∙ e;
+    })
 
 -- words cleared
 pub cleared-none : (w : List ℕ) (a : ℕ) → cleared w a a ≡ w

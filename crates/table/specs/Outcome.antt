@@ -8,7 +8,7 @@ use mathlib.Core.Option.{Option, none, some}
 use lib.ListN.{length, replicate}
 use lib.Dec.{leb, ltb}
 use Rattle.calculus.specs.Tree.{Tree}
-use Rattle.table.specs.Nodes.{Table, Placed, capacity, sound, Sound, lay, cleared}
+use Rattle.table.specs.Nodes.{Table, Placed, Making, got, full, capacity, sound, Sound, lay, cleared}
 use Rattle.table.specs.declared.Refusal.{Refusal}
 use Rattle.table.specs.declared.Refusal.the-variants.{Limits, Broken, Nodes, Frames}
 use Rattle.table.specs.declared.Made.{Made}
@@ -64,14 +64,15 @@ stopped a t u s = whole a (cleared (t .words) (u * 2) (t .used * 2)) (zeros s)
 unfoldable pub placed : Placed → List ℕ → Outcome Made
 placed p s = whole (the-variants.Node (p .node) (p .table .used)) (p .table .words) (zeros s)
 
--- a tree laid out in new nodes, as Read and Translate do
+-- "Read, Translate and Label meet it while making nodes" ([8]): where a node has no place, those made since u were in use are cleared
+unfoldable pub settled : ℕ → List ℕ → Making → Outcome Made
+settled u s (got p) = placed p s
+settled u s (full t) = stopped (the-variants.Refused Nodes) t u s
+
+-- a tree laid out, as Read and Translate do
 unfoldable pub laid : List ℕ → ℕ → List ℕ → Tree → Outcome Made
-laid w u s t = placed (lay (record { words = w; used = u }) t) s
+laid w u s t = settled u s (lay (record { words = w; used = u }) t)
 
--- what a tree of so many nodes that takes so many frames lacks: 8 before 9
-unfoldable pub lacking : List ℕ → ℕ → List ℕ → ℕ → ℕ → Option Refusal
-lacking w u s nodes held = cond (ltb (capacity w - u) nodes) (some Nodes) (cond (ltb (frames s) held) (some Frames) none)
-
--- "Read, Translate and Label meet 8 and 9 before they make a node.": 8, then 9, then the tree laid out
-unfoldable pub laidWithin : List ℕ → ℕ → List ℕ → ℕ → ℕ → Tree → Outcome Made
-laidWithin w u s nodes held t = unless (lacking w u s nodes held) (λ e. stopped (the-variants.Refused e) (record { words = w; used = u }) u s) (laid w u s t)
+-- "after 9 where there is one" ([8]): 9 before a node is made, where a tree takes so many frames, then the tree laid out
+unfoldable pub laidWithin : List ℕ → ℕ → List ℕ → ℕ → Tree → Outcome Made
+laidWithin w u s held t = cond (ltb (frames s) held) (stopped (the-variants.Refused Frames) (record { words = w; used = u }) u s) (laid w u s t)

@@ -1,11 +1,11 @@
 // A lent table's words as nodes, the refusals, and what the operations share, as definitions, in specs/, and their theorems, in proofs/. The code
-// over a table is in the crates `nodes` and `checks`.
+// over a table is in the crates `nodes`, `index`, `checks`, `same` and `refusals`.
 
 // Why an operation was refused. `specs/Refusal.antt` gives the number of each.
 pub enum Refusal {
     // a length, a count or a limit is too large
     Limits,
-    // a used node is broken
+    // a used node is broken, or two are equal
     Broken,
     // a node number is not below used
     Node,
@@ -17,7 +17,7 @@ pub enum Refusal {
     Packet,
     // the step limit is reached
     Steps,
-    // a new node has no place
+    // a node that is not there has no place
     Nodes,
     // every frame is held
     Frames,
@@ -32,5 +32,12 @@ pub enum Refusal {
 // The answer of an operation that makes nodes: the node and the new count of used nodes.
 pub enum Made {
     Node { node: usize, used: usize },
+    Refused(Refusal),
+}
+
+// The answer of `same`: whether two nodes have the same tree.
+pub enum Compared {
+    Equal,
+    Different,
     Refused(Refusal),
 }

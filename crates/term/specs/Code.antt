@@ -1,5 +1,5 @@
 -- What the functions that lay out a rule's tree ask. Assumes nothing: these are definitions.
-use Prim.Native.Nat.{ℕ, _+_, _-_, _*_, _≤_}
+use Prim.Native.Nat.{ℕ, _*_, _≤_}
 use mathlib.Core.Path.{_≡_}
 use mathlib.Core.List.{List}
 use mathlib.Core.Option.{some}
@@ -8,23 +8,18 @@ use Rattle.calculus.specs.Tree.{Tree, size}
 use Rattle.calculus.specs.Term.{Term}
 use Rattle.calculus.specs.Bytes.{rule}
 use Rattle.calculus.specs.Abstraction.{term, ruleTree}
-use Rattle.table.specs.Nodes.{capacity}
 use Rattle.table.specs.Outcome.{frames}
 use Rattle.bracket.specs.Words.{words, Holds}
 
--- the words of a tree's term stand in s from p on, and its nodes have room in d from node n on
-pub record LayAt (s : List ℕ) (p : ℕ) (d : List ℕ) (n : ℕ) : Type 0 where
+-- the words of a tree's term stand in s from p on
+pub record LayAt (s : List ℕ) (p : ℕ) : Type 0 where
   pub tree : Tree
   pub stands : Holds s p (words (term tree))
-  pub room : (n + size tree) * 2 ≤ length d
-  pub short : length d ≤ 131072
 
--- the bytes are a rule whose tree has room in the table, and whose words have room in the stack
-pub record PlaceAt (w : List ℕ) (u : ℕ) (s b : List ℕ) : Type 0 where
+-- the bytes are a rule whose tree has n nodes unshared, and whose words have room in the stack twice
+pub record PlaceAt (s b : List ℕ) (n : ℕ) : Type 0 where
   pub term : Term
   pub is-rule : rule b ≡ some term
-  pub nodes : size (ruleTree term) ≤ capacity w - u
+  pub counted : n ≡ size (ruleTree term)
   pub frames : 2 * size (ruleTree term) ≤ frames s
-  pub within : u ≤ capacity w
-  pub table : length w ≤ 131072
   pub stack : length s ≤ 65536

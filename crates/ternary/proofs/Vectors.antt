@@ -1,14 +1,19 @@
--- Worked examples of the definitions: which refusal comes first at a digit, which frames are held at it, when trees are counted, how many are wanted.
--- Assumes nothing.
+-- Worked examples of the definitions: which nodes the digits want and which refusal comes first, which frames are held at a digit, when trees are counted,
+-- how many are wanted. Assumes nothing.
 use Prim.Native.Nat.{ℕ}
 use mathlib.Core.Path.{_≡_, refl}
 use mathlib.Core.List.{[], _∷_, map}
 use mathlib.Core.Option.{none, some}
-use lib.ListN.{take}
+use lib.ListN.{take, replicate}
 use Rattle.calculus.specs.Tree.{Tree, leaf, stem, fork, size}
+use Rattle.table.specs.Nodes.{Table, make, orNew, newNode, andThen, lay, find, hasWords, isNone, broken, sound}
+use Rattle.table.specs.Outcome.{whole, fits, atEntry, placed, stopped, settled, laid, laidWithin}
 use Rattle.table.specs.Refusal.{number, refusedNumbers}
-use Rattle.table.specs.declared.Refusal.the-variants.{Frames, Out}
-use Rattle.ternary.specs.Text.{text, takeLeaf, takeStem, takeFork, takeDigit, pending, manyPending, mostPending}
+use Rattle.table.specs.declared.Made.the-variants as made
+use Rattle.table.specs.declared.Refusal.the-variants.{Text, Nodes, Frames, Out}
+use Rattle.ternary.specs.Text.{text, takeLeaf, takeStem, takeFork, takeDigit, pending, single, treeOf, manyPending, mostPending}
+use Rattle.ternary.specs.Laying.{awaits, no-place, no-text, keep, wantLeaf, wantStem, wantFork, layDigit, layDigits}
+use Rattle.ternary.specs.Read.{readable, readTree, read}
 use Rattle.ternary.specs.Wanted.{wantedAfter, wantedFrom, wanted}
 use Rattle.ternary.specs.Write.{left, lacks, next, spend, digits, writtenNumbers}
 use Rattle.ternary.specs.Held.{held}
@@ -47,3 +52,33 @@ pub wants : (map (λ (n : ℕ). wanted (take n (50 ∷ 49 ∷ 48 ∷ 50 ∷ 48 �
     ≡ some 1 ∷ some 2 ∷ some 2 ∷ some 1 ∷ some 2 ∷ some 1 ∷ some 0 ∷ none ∷ []) × (wanted (50 ∷ 51 ∷ []) ≡ none)
 unfolding wanted wantedFrom wantedAfter
 wants = (refl, refl)
+
+-- a table of three nodes in which node 0 is a leaf
+abbrev leafThere : Table
+leafThere = record { words = replicate 6 0; used = 1 }
+
+-- 2010, last to first: the leaf is there, its stem is node 1, the leaf is there, the fork of the leaf and the stem is node 2
+pub digit-by-digit : map (layDigits leafThere) ((48 ∷ []) ∷ (49 ∷ 48 ∷ []) ∷ (48 ∷ 49 ∷ 48 ∷ []) ∷ (50 ∷ 48 ∷ 49 ∷ 48 ∷ []) ∷ [])
+    ≡ awaits leafThere (0 ∷ []) ∷ awaits (record { words = 0 ∷ 0 ∷ 1 ∷ 0 ∷ 0 ∷ 0 ∷ []; used = 2 }) (1 ∷ [])
+    ∷ awaits (record { words = 0 ∷ 0 ∷ 1 ∷ 0 ∷ 0 ∷ 0 ∷ []; used = 2 }) (0 ∷ 1 ∷ []) ∷ awaits (record { words = 0 ∷ 0 ∷ 1 ∷ 0 ∷ 1 ∷ 2 ∷ []; used = 3 }) (2 ∷ []) ∷ []
+unfolding layDigits layDigit wantLeaf wantStem wantFork keep make orNew newNode find hasWords
+digit-by-digit = refl
+
+-- a stem or a fork without branches and another byte are no text; a fork's node that has no place
+pub digits-stop : (map (layDigits leafThere) ((49 ∷ []) ∷ (50 ∷ 48 ∷ []) ∷ (51 ∷ 48 ∷ []) ∷ []) ≡ no-text ∷ no-text ∷ no-text ∷ [])
+    × (layDigits (record { words = replicate 4 0; used = 1 }) (50 ∷ 48 ∷ 49 ∷ 48 ∷ []) ≡ no-place (record { words = 0 ∷ 0 ∷ 1 ∷ 0 ∷ []; used = 2 }))
+unfolding layDigits layDigit wantLeaf wantStem wantFork keep make orNew newNode find hasWords
+digits-stop = (refl, refl)
+
+-- Read of 10 in a full table that has the leaf alone: 9 without a frame; with one, 8 for the stem. 0 is there and needs no place. 00 is 4.
+pub full-table : (read (0 ∷ 0 ∷ []) 1 (7 ∷ 7 ∷ []) (49 ∷ 48 ∷ []) ≡ whole (made.Refused Frames) (0 ∷ 0 ∷ []) (0 ∷ 0 ∷ []))
+    × (read (0 ∷ 0 ∷ []) 1 (7 ∷ 7 ∷ 7 ∷ []) (49 ∷ 48 ∷ []) ≡ whole (made.Refused Nodes) (0 ∷ 0 ∷ []) (0 ∷ 0 ∷ 0 ∷ []))
+    × (read (0 ∷ 0 ∷ []) 1 (7 ∷ 7 ∷ 7 ∷ []) (48 ∷ []) ≡ whole (made.Node 0 1) (0 ∷ 0 ∷ []) (0 ∷ 0 ∷ 0 ∷ []))
+    × (read (0 ∷ 0 ∷ []) 1 (7 ∷ 7 ∷ 7 ∷ []) (48 ∷ 48 ∷ []) ≡ whole (made.Refused Text) (0 ∷ 0 ∷ []) (7 ∷ 7 ∷ 7 ∷ []))
+unfolding read readTree readable treeOf single pending takeDigit takeLeaf takeStem mostPending manyPending atEntry fits sound broken isNone find hasWords laidWithin laid settled placed stopped lay andThen make orNew newNode
+full-table = (refl, refl, refl, refl)
+
+-- Read of 2010 with a place for the stem alone: 8 at the fork, with the stem's words set to 0 and the odd word left
+pub cleared-again : read (0 ∷ 0 ∷ 5 ∷ 6 ∷ 9 ∷ []) 1 (7 ∷ 7 ∷ 7 ∷ 7 ∷ 7 ∷ 7 ∷ []) (50 ∷ 48 ∷ 49 ∷ 48 ∷ []) ≡ whole (made.Refused Nodes) (0 ∷ 0 ∷ 0 ∷ 0 ∷ 9 ∷ []) (replicate 6 0)
+unfolding read readTree readable treeOf single pending takeDigit takeLeaf takeStem takeFork mostPending manyPending atEntry fits sound broken isNone find hasWords laidWithin laid settled stopped lay andThen make orNew newNode
+cleared-again = refl

@@ -2,6 +2,7 @@
 pub mod Text
 pub mod Wanted
 pub mod Read
+pub mod Laying
 pub mod Write
 pub mod Held
 pub mod Lacks

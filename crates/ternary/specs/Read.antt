@@ -21,10 +21,10 @@ unfoldable pub isSome : {A : Type 0} → Option A → Bool
 isSome none = false
 isSome (some a) = true
 
--- "8: more digits than free nodes. 9: fewer frames than the most trees pending": what Read does on a table that passed 1 and 2.
+-- "9: fewer frames than the most trees pending" (Operations, Read), then 8 while making nodes ([8]): what Read does on a table that passed 1 and 2.
 unfoldable pub readTree : List ℕ → ℕ → List ℕ → List ℕ → Option Tree → Outcome Made
 readTree w u s l none = whole (Refused Text) w s
-readTree w u s l (some t) = laidWithin w u s (length l) (mostPending l) t
+readTree w u s l (some t) = laidWithin w u s (mostPending l) t
 
 -- Read the text l into the table w with u nodes in use, with the stack s.
 unfoldable pub read : List ℕ → ℕ → List ℕ → List ℕ → Outcome Made

@@ -1,5 +1,5 @@
 // Ternary text, Read and Write as definitions, in specs/, and their theorems, in proofs/. In code the test for a whole text is the crate `whole_text`,
-// Read the crate `reader`, Write the crate `writer`.
+// Read the crates `reader` and `read`, Write the crate `writer`.
 use table::Refusal;
 
 // Write's answer: how many digits were written.

@@ -12,11 +12,11 @@ use Rattle.table.specs.declared.Refusal.the-variants.{Rule}
 use Rattle.table.specs.declared.Made.{Made}
 use Rattle.table.specs.declared.Made.the-variants.{Refused}
 
--- "5: bytes not a rule. 8: tree larger than the free nodes. 9: fewer than two frames for each node of the tree. Nodes lie as Read would lay its
--- text.": what Translate does on a table that passed 1 and 2.
+-- "5: bytes not a rule. [..] 9: fewer than two frames for each node of the tree. Nodes lie as Read would lay its text." (Operations, Translate), and 8 while
+-- making nodes; "Translate's frames go by the tree's size unshared" ([8]): what Translate does on a table that passed 1 and 2.
 unfoldable pub translateRule : List ℕ → ℕ → List ℕ → Option Term → Outcome Made
 translateRule w u s none = whole (Refused Rule) w s
-translateRule w u s (some t) = laidWithin w u s (size (ruleTree t)) (2 * size (ruleTree t)) (ruleTree t)
+translateRule w u s (some t) = laidWithin w u s (2 * size (ruleTree t)) (ruleTree t)
 
 -- Translate the rule b into the table w with u nodes in use, with the stack s.
 unfoldable pub translate : List ℕ → ℕ → List ℕ → List ℕ → Outcome Made

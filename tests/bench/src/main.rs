@@ -3,13 +3,21 @@
 //!
 //! `bench [PLOT.svg]`
 //!
-//! Or measures Run beside another build of the library, and prints that table alone:
+//! Or measures Apply, Read and Run beside another build of the library, and prints these tables alone:
 //!
 //! `bench --beside OTHER/target/staticlib/libffi.a`
+//!
+//! Or measures what making each tree once costs: Apply beside the C loop, how the time of a step grows with
+//! the nodes, nodes that meet in one place of the index, and, if it is given, another build:
+//!
+//! `bench --sharing [OTHER/target/staticlib/libffi.a]`
 
 mod beside;
+mod c;
 mod evaluator;
+mod growing;
 mod measure;
+mod meeting;
 mod places;
 mod plain;
 mod plot;
@@ -28,109 +36,6 @@ use std::hint::black_box;
 use workloads::Workload;
 
 const ROUNDS: usize = 101;
-
-/// The engine and the C loop as C calls them, out of shared objects, and another build's engine.
-mod c {
-    use crate::places::{link, PLACES};
-    use std::ffi::{c_char, c_int, c_void, CString};
-    use std::mem::transmute;
-    use std::path::Path;
-
-    pub type Apply = unsafe extern "C" fn(
-        *mut u32,
-        usize,
-        usize,
-        *mut u32,
-        usize,
-        usize,
-        usize,
-        usize,
-        *mut [usize; 10],
-    );
-
-    pub type Run = unsafe extern "C" fn(
-        *mut u32,
-        usize,
-        *mut u32,
-        usize,
-        *mut u8,
-        usize,
-        *const u8,
-        usize,
-        *mut [usize; 10],
-    );
-
-    extern "C" {
-        fn dlopen(path: *const c_char, flags: c_int) -> *mut c_void;
-        fn dlsym(object: *mut c_void, name: *const c_char) -> *mut c_void;
-    }
-
-    const NOW: c_int = 2;
-
-    const BUILT: &str = env!("OUT_DIR");
-
-    /// A function of a shared object in a folder, once for each place of its code.
-    fn placed(folder: &str, object: &str, function: &str) -> [*mut c_void; PLACES.len()] {
-        std::array::from_fn(|k| {
-            let path = format!("{folder}/{object}_{k}.so");
-            let path = CString::new(path).expect("a path");
-            let function = CString::new(function).expect("a name");
-            unsafe {
-                let object = dlopen(path.as_ptr(), NOW);
-                assert!(!object.is_null(), "no {path:?}");
-                let function = dlsym(object, function.as_ptr());
-                assert!(!function.is_null(), "no function in {path:?}");
-                function
-            }
-        })
-    }
-
-    fn apply(object: &str, function: &str) -> [Apply; PLACES.len()] {
-        // The build links each of these functions with the type `Apply`.
-        placed(BUILT, object, function).map(|f| unsafe { transmute::<*mut c_void, Apply>(f) })
-    }
-
-    fn run(folder: &str, object: &str) -> [Run; PLACES.len()] {
-        // The library's header gives this function the type `Run`.
-        let functions = placed(folder, object, "lazvorn_run");
-        functions.map(|f| unsafe { transmute::<*mut c_void, Run>(f) })
-    }
-
-    /// This build's Run.
-    pub fn runs() -> [Run; PLACES.len()] {
-        run(BUILT, "libffi")
-    }
-
-    /// The Run of another build's archive.
-    pub fn runs_of(archive: &Path) -> [Run; PLACES.len()] {
-        let folder = format!("{BUILT}/other");
-        std::fs::create_dir_all(&folder).expect("a folder");
-        let linker = if cfg!(clang) { "clang" } else { "gcc" };
-        link(linker, archive, Path::new(&folder));
-        let name = archive.file_stem().expect("a file");
-        run(&folder, &name.to_string_lossy())
-    }
-
-    /// The engine, and the C loop as each compiler made it that was there.
-    pub fn applies() -> Vec<(&'static str, [Apply; PLACES.len()])> {
-        let loops = |name: &str| apply(name, name);
-        vec![
-            ("engine", apply("libffi", "lazvorn_apply")),
-            #[cfg(gcc)]
-            ("C, gcc -O3", loops("apply_gcc")),
-            #[cfg(clang)]
-            ("C, clang -O3", loops("apply_clang")),
-            #[cfg(gcc)]
-            ("C, gcc -O3, three counters", loops("apply_gcc_derived")),
-            #[cfg(clang)]
-            ("C, clang -O3, three counters", loops("apply_clang_derived")),
-            #[cfg(gcc)]
-            ("C, gcc -O3, same checks", loops("apply_gcc_checked")),
-            #[cfg(clang)]
-            ("C, clang -O3, same checks", loops("apply_clang_checked")),
-        ]
-    }
-}
 
 /// Prints a row for each contender after the engine: the engine's speed beside it.
 fn rows(what: &str, times: &[Times]) {
@@ -294,12 +199,12 @@ fn reading(text: &[u8]) -> Vec<Times> {
     rounds(
         vec![
             contender("engine", || {
-                let read = lazvorn::read(&mut table, 0, &mut stack, text);
-                assert_eq!(read.used, text.len());
+                let again = lazvorn::read(&mut table, 0, &mut stack, text);
+                assert_eq!(again, read);
             }),
             contender("plain Rust, same checks", || {
-                let read = plain::read(&mut other_table, 0, &mut other_stack, text);
-                assert_eq!(read[2], text.len());
+                let again = plain::read(&mut other_table, 0, &mut other_stack, text);
+                assert_eq!(again, plain);
             }),
         ],
         ROUNDS,
@@ -484,7 +389,7 @@ fn read_call(text: Vec<u8>) -> Call {
     let size = text.len();
     let call = move || {
         let read = lazvorn::read(&mut m.table, 0, &mut m.stack, &text);
-        assert_eq!(read.used, text.len());
+        assert_eq!(read.refusal, 0);
     };
     (size, Box::new(call))
 }
@@ -492,11 +397,12 @@ fn read_call(text: Vec<u8>) -> Call {
 fn write_call(text: Vec<u8>) -> Call {
     let mut m = memory();
     let read = lazvorn::read(&mut m.table, 0, &mut m.stack, &text);
+    let size = text.len();
     let call = move || {
         let written = lazvorn::write(&m.table, read.used, &mut m.stack, read.node, &mut m.out);
         assert_eq!(written.digits, text.len());
     };
-    (read.used, Box::new(call))
+    (size, Box::new(call))
 }
 
 fn translate_call(rule: Vec<u8>) -> Call {
@@ -607,12 +513,26 @@ fn print_growth(lines: &[plot::Line]) {
     }
 }
 
+fn sharing(archive: Option<String>) {
+    apply();
+    growing::growing();
+    meeting::meeting();
+    if let Some(archive) = archive {
+        beside::beside(archive.as_ref());
+    }
+}
+
 fn bench() {
     let mut arguments = std::env::args().skip(1);
     let path = arguments.next();
-    if path.as_deref() == Some("--beside") {
-        let archive = arguments.next().expect("the other build's libffi.a");
-        return beside::beside(archive.as_ref());
+    let archive = arguments.next();
+    match path.as_deref() {
+        Some("--beside") => {
+            let archive = archive.expect("the other build's libffi.a");
+            return beside::beside(archive.as_ref());
+        }
+        Some("--sharing") => return sharing(archive),
+        _ => {}
     }
     apply();
     texts_and_rules();

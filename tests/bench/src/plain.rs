@@ -1,6 +1,8 @@
 //! The operations in plain safe Rust, over the same words, with the same checks and the same effects
-//! on memory: what a user would write instead of linking the engine. No call is inlined into the
-//! benchmark, as no call of the engine is.
+//! on memory: what a user would write instead of linking the engine, with a map of the standard library
+//! by which each tree is made once. No call is inlined into the benchmark, as no call of the engine is.
+
+use std::collections::HashMap;
 
 pub type Answer = [usize; 5];
 
@@ -15,18 +17,47 @@ fn refused_uses(number: usize, used: usize) -> Counted {
     [number, 0, used, 0, 0, 0, 0, 0, 0, 0]
 }
 
+/// The used nodes by their words.
+type Nodes = HashMap<(u32, u32), u32>;
+
 /// Refusals 1 and 2.
-fn check(table: &[u32], used: usize, stack: &[u32]) -> Result<(), usize> {
+fn check(table: &[u32], used: usize, stack: &[u32]) -> Result<Nodes, usize> {
     if table.len() > 131_072 || stack.len() > 65_536 || used > table.len() / 2 {
         return Err(1);
     }
+    let mut nodes = Nodes::with_capacity(used);
     for (i, node) in table.chunks_exact(2).take(used).enumerate() {
-        let (a, b) = (node[0] as usize, node[1] as usize);
-        if (a == 0 && b != 0) || a > i || b > i {
+        let (a, b) = (node[0], node[1]);
+        let broken = (a == 0 && b != 0) || a as usize > i || b as usize > i;
+        if broken || nodes.insert((a, b), i as u32).is_some() {
             return Err(2);
         }
     }
-    Ok(())
+    Ok(nodes)
+}
+
+/// The node with these words, one that is there or the next; none where there is no place for it.
+fn make(table: &mut [u32], made: &mut usize, nodes: &mut Nodes, words: (u32, u32)) -> Option<u32> {
+    if let Some(node) = nodes.get(&words) {
+        return Some(*node);
+    }
+    let node = *made;
+    let place = table.get_mut(2 * node..2 * node + 2)?;
+    place.copy_from_slice(&[words.0, words.1]);
+    nodes.insert(words, node as u32);
+    *made += 1;
+    Some(node as u32)
+}
+
+/// The answer of an operation that made nodes from `used` up to `made`, and what is left of them.
+fn answer(table: &mut [u32], used: usize, made: usize, node: Option<u32>) -> Answer {
+    match node {
+        Some(node) => [0, node as usize, made, 0, 0],
+        None => {
+            table[2 * used..2 * made].fill(0);
+            refused(8, used)
+        }
+    }
 }
 
 /// The most trees pending in a text that is one whole tree.
@@ -47,26 +78,15 @@ fn most_pending(text: &[u8]) -> Option<usize> {
     (pending == 1).then_some(most)
 }
 
-#[inline(never)]
-pub fn read(table: &mut [u32], used: usize, stack: &mut [u32], text: &[u8]) -> Answer {
-    if let Err(number) = check(table, used, stack) {
-        return refused(number, used);
-    }
-    let Some(most) = most_pending(text) else {
-        return refused(4, used);
-    };
-    let number = if table.len() / 2 - used < text.len() {
-        8
-    } else if stack.len() / 3 < most {
-        9
-    } else {
-        0
-    };
-    if number != 0 {
-        stack.fill(0);
-        return refused(number, used);
-    }
-    let (mut made, mut held) = (used, 0);
+/// The node of a text's tree, whose digits are taken last to first.
+fn lay_text(
+    table: &mut [u32],
+    made: &mut usize,
+    nodes: &mut Nodes,
+    stack: &mut [u32],
+    text: &[u8],
+) -> Option<u32> {
+    let mut held = 0;
     for digit in text.iter().rev() {
         let (mut first, mut second) = (0, 0);
         if *digit != b'0' {
@@ -77,14 +97,29 @@ pub fn read(table: &mut [u32], used: usize, stack: &mut [u32], text: &[u8]) -> A
             held -= 1;
             second = stack[3 * held] + 1;
         }
-        table[2 * made] = first;
-        table[2 * made + 1] = second;
-        stack[3 * held] = made as u32;
+        stack[3 * held] = make(table, made, nodes, (first, second))?;
         held += 1;
-        made += 1;
     }
+    Some(stack[0])
+}
+
+#[inline(never)]
+pub fn read(table: &mut [u32], used: usize, stack: &mut [u32], text: &[u8]) -> Answer {
+    let mut nodes = match check(table, used, stack) {
+        Ok(nodes) => nodes,
+        Err(number) => return refused(number, used),
+    };
+    let Some(most) = most_pending(text) else {
+        return refused(4, used);
+    };
+    if stack.len() / 3 < most {
+        stack.fill(0);
+        return refused(9, used);
+    }
+    let mut made = used;
+    let node = lay_text(table, &mut made, &mut nodes, stack, text);
     stack.fill(0);
-    [0, made - 1, made, 0, 0]
+    answer(table, used, made, node)
 }
 
 /// Goes through a tree's digits and hands each to `put`; how many there are, or what was lacking.
@@ -163,13 +198,14 @@ pub fn apply(
     if limit > 1_000_000 {
         return refused_uses(1, used);
     }
-    if let Err(number) = check(table, used, stack) {
-        return refused_uses(number, used);
-    }
+    let mut nodes = match check(table, used, stack) {
+        Ok(nodes) => nodes,
+        Err(number) => return refused_uses(number, used),
+    };
     if function >= used || argument >= used {
         return refused_uses(3, used);
     }
-    let (nodes, frames) = (table.len() / 2, stack.len() / 3);
+    let frames = stack.len() / 3;
     let (mut f, mut n) = (function, argument);
     let (mut made, mut held, mut steps) = (used, 0, 0);
     let (mut leaf, mut stem, mut drop, mut spread, mut triage) = (0, 0, 0, 0, 0);
@@ -180,20 +216,17 @@ pub fn apply(
         let (a, b) = (table[2 * f] as usize, table[2 * f + 1] as usize);
         let v;
         if a == 0 || b == 0 {
-            if made == nodes {
-                break Err(8);
-            }
-            let (first, second) = if a == 0 {
+            let words = if a == 0 {
                 leaf += 1;
-                (n + 1, 0)
+                (n as u32 + 1, 0)
             } else {
                 stem += 1;
-                (a, n + 1)
+                (a as u32, n as u32 + 1)
             };
-            table[2 * made] = first as u32;
-            table[2 * made + 1] = second as u32;
-            v = made;
-            made += 1;
+            let Some(node) = make(table, &mut made, &mut nodes, words) else {
+                break Err(8);
+            };
+            v = node as usize;
         } else {
             let at = 2 * (a - 1);
             let (p, q) = (table[at] as usize, table[at + 1] as usize);
@@ -335,28 +368,26 @@ fn abstracted(term: Term) -> Term {
 }
 
 /// Lays the tree of a closed term, second branch first; its node.
-fn lay(table: &mut [u32], made: &mut usize, term: &Term) -> u32 {
-    let (first, second) = match term {
+fn lay(table: &mut [u32], made: &mut usize, nodes: &mut Nodes, term: &Term) -> Option<u32> {
+    let words = match term {
         Term::Apply(f, a) => match &**f {
             Term::Apply(_, p) => {
-                let second = lay(table, made, a) + 1;
-                (lay(table, made, p) + 1, second)
+                let second = lay(table, made, nodes, a)? + 1;
+                (lay(table, made, nodes, p)? + 1, second)
             }
-            _ => (lay(table, made, a) + 1, 0),
+            _ => (lay(table, made, nodes, a)? + 1, 0),
         },
         _ => (0, 0),
     };
-    table[2 * *made] = first;
-    table[2 * *made + 1] = second;
-    *made += 1;
-    *made as u32 - 1
+    make(table, made, nodes, words)
 }
 
 #[inline(never)]
 pub fn translate(table: &mut [u32], used: usize, stack: &mut [u32], bytes: &[u8]) -> Answer {
-    if let Err(number) = check(table, used, stack) {
-        return refused(number, used);
-    }
+    let mut nodes = match check(table, used, stack) {
+        Ok(nodes) => nodes,
+        Err(number) => return refused(number, used),
+    };
     let mut rest = bytes;
     let rule = if bytes.len() <= 4_096 && bytes.first() == Some(&2) {
         parse(&mut rest, 0).filter(|_| rest.is_empty())
@@ -367,20 +398,11 @@ pub fn translate(table: &mut [u32], used: usize, stack: &mut [u32], bytes: &[u8]
         return refused(5, used);
     };
     let (n, _) = size(&rule);
-    let number = if (table.len() / 2 - used) as u64 >= n {
-        if (stack.len() / 3) as u64 >= 2 * n {
-            0
-        } else {
-            9
-        }
-    } else {
-        8
-    };
     stack.fill(0);
-    if number != 0 {
-        return refused(number, used);
+    if ((stack.len() / 3) as u64) < 2 * n {
+        return refused(9, used);
     }
     let mut made = used;
-    lay(table, &mut made, &translated(rule));
-    [0, made - 1, made, 0, 0]
+    let node = lay(table, &mut made, &mut nodes, &translated(rule));
+    answer(table, used, made, node)
 }

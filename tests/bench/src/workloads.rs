@@ -163,10 +163,10 @@ pub fn all() -> Vec<Workload> {
     vec![
         endless(100_000),
         Workload::new(
-            "endless inside an application, cut for want of nodes",
+            "endless inside an application, cut by its limit",
             STEM_OF_SELF,
             vec![text_of(STEM_OF_SELF)],
-            1_000_000,
+            100_000,
             MOST,
         ),
         Workload::new(

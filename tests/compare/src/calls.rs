@@ -1,11 +1,12 @@
-//! Read, Write, Translate, Apply, Label and `unlabel` beside the model, on tables that are sound, broken
-//! or noise, with lengths and numbers at and beyond every border.
+//! Read, Write, Translate, Apply, Label, `unlabel` and `same` beside the model, on tables that are sound,
+//! broken, noise or have two equal nodes, with lengths and numbers at and beyond every border.
 
-use crate::{difference, hexadecimal, unlabel, Counts, Noise};
+use crate::{difference, hexadecimal, same, unlabel, Counts, Noise};
 use compare::random::Random;
 use compare::trees;
 use compare::{answer_of, counted_of, LABEL_NODES};
 use model::Memory;
+use std::collections::HashSet;
 
 /// An operation, with the refusals that it can meet, and the kinds of its calls that are counted.
 #[derive(Clone, Copy)]
@@ -16,35 +17,46 @@ pub struct Operation {
     call: fn(&mut Random, &Noise) -> Call,
 }
 
-pub const OPERATIONS: [Operation; 6] = [
+/// The kind of every operation's calls that are refused for two equal nodes alone.
+pub const EQUAL_NODES: &str = "2 for equal nodes";
+
+/// The kinds of calls that may make nodes.
+const MAKING: [&str; 4] = [
+    EQUAL_NODES,
+    "0 in a full table",
+    "8 in a full table",
+    "8 after new nodes",
+];
+
+pub const OPERATIONS: [Operation; 7] = [
     Operation {
         name: "Read",
         refusals: &[1, 2, 4, 8, 9],
-        kinds: &[],
+        kinds: &MAKING,
         call: read,
     },
     Operation {
         name: "Write",
         refusals: &[1, 2, 3, 9, 10],
-        kinds: &[],
+        kinds: &[EQUAL_NODES],
         call: write,
     },
     Operation {
         name: "Translate",
         refusals: &[1, 2, 5, 8, 9],
-        kinds: &[],
+        kinds: &MAKING,
         call: translate,
     },
     Operation {
         name: "Apply",
         refusals: &[1, 2, 3, 7, 8, 9],
-        kinds: &[],
+        kinds: &MAKING,
         call: apply,
     },
     Operation {
         name: "Label",
         refusals: &[1, 2, 3, 8],
-        kinds: &[],
+        kinds: &MAKING,
         call: label,
     },
     Operation {
@@ -52,6 +64,12 @@ pub const OPERATIONS: [Operation; 6] = [
         refusals: &[1, 2, 3, 11],
         kinds: &unlabel::KINDS,
         call: unlabel::unlabel,
+    },
+    Operation {
+        name: "Same",
+        refusals: &[1, 2, 3],
+        kinds: &same::KINDS,
+        call: same::same,
     },
 ];
 
@@ -94,7 +112,7 @@ pub fn compare(random: &mut Random, noise: &Noise, operation: Operation, calls: 
 
 /// Makes one call on two copies of a memory.
 pub fn both<const N: usize>(
-    memory: Memory,
+    memory: &Memory,
     what: impl FnOnce() -> String,
     engine: impl FnOnce(&mut Memory) -> [usize; N],
     model: impl FnOnce(&mut Memory) -> [usize; N],
@@ -138,8 +156,39 @@ fn odd_number(random: &mut Random) -> usize {
     *random.pick(&odd)
 }
 
-/// The first `used` nodes of a table as random nodes that are not broken.
+/// Whether no used node of a table is broken, and two are equal.
+pub fn equal_nodes(table: &[u32], used: usize) -> bool {
+    let nodes = table.chunks_exact(2).take(used).enumerate();
+    let mut broken = nodes.clone().filter(|(i, node)| {
+        let above = node.iter().any(|word| *word as usize > *i);
+        above || (node[0] == 0 && node[1] != 0)
+    });
+    let different: HashSet<&[u32]> = nodes.clone().map(|(_, node)| node).collect();
+    broken.next().is_none() && different.len() < used.min(table.len() / 2)
+}
+
+/// A call of an operation that may make nodes, with its kind.
+fn making<const N: usize>(
+    memory: &Memory,
+    used: usize,
+    what: impl FnOnce() -> String,
+    engine: impl FnOnce(&mut Memory) -> [usize; N],
+    model: impl FnOnce(&mut Memory) -> [usize; N],
+) -> Call {
+    let mut call = both(memory, what, engine, model);
+    let full = used == memory.table.len() / 2;
+    call.kind = match call.refusal {
+        2 => equal_nodes(&memory.table, used).then_some(0),
+        0 => full.then_some(1),
+        8 => Some(if full { 2 } else { 3 }),
+        _ => None,
+    };
+    call
+}
+
+/// The first `used` nodes of a table as random nodes that are not broken, no two of them equal.
 pub fn sow(random: &mut Random, table: &mut [u32], used: usize) {
+    let mut sown = HashSet::new();
     for i in 0..used {
         let branch = |random: &mut Random| {
             if i > 6 && random.once_in(2) {
@@ -148,13 +197,18 @@ pub fn sow(random: &mut Random, table: &mut [u32], used: usize) {
                 random.within(1, i.max(1)) as u32
             }
         };
-        let (first, second) = match random.below(if i == 0 { 1 } else { 6 }) {
-            0 => (0, 0),
-            1 | 2 => (branch(random), 0),
-            _ => (branch(random), branch(random)),
+        // Node 0 is the leaf, and there are enough others for every node after it.
+        let node = loop {
+            let node = match random.below(if i == 0 { 1 } else { 5 }) {
+                0 if i == 0 => [0, 0],
+                0 | 1 => [branch(random), 0],
+                _ => [branch(random), branch(random)],
+            };
+            if sown.insert(node) {
+                break node;
+            }
         };
-        table[2 * i] = first;
-        table[2 * i + 1] = second;
+        table[2 * i..2 * i + 2].copy_from_slice(&node);
     }
 }
 
@@ -191,7 +245,8 @@ fn words(random: &mut Random) -> usize {
     }
 }
 
-/// Memory with a table that has some nodes in use: sound, broken at one node, or mere noise.
+/// Memory with a table that has some nodes in use: sound, broken at one node, with two equal nodes, or
+/// mere noise. Now and then the words after a sound table are nodes that could be in use.
 pub fn memory(random: &mut Random, noise: &Noise, stack: usize, out: usize) -> (Memory, usize) {
     let words = words(random);
     let mut memory = noise.memory(random, words, stack, out);
@@ -205,11 +260,17 @@ pub fn memory(random: &mut Random, noise: &Noise, stack: usize, out: usize) -> (
         }
         _ => random.below(capacity + 1),
     };
+    let used = if random.once_in(8) {
+        random.below(used + 1)
+    } else {
+        used
+    };
     let used = spoil(random, &mut memory.table, used);
     (memory, used)
 }
 
-/// Now and then breaks one of the nodes in use, or has too many in use; how many are in use then.
+/// Now and then breaks one of the nodes in use, makes two of them equal, once in twenty times or more,
+/// or has too many in use; how many are in use then.
 pub fn spoil(random: &mut Random, table: &mut [u32], used: usize) -> usize {
     match random.below(60) {
         0 => return table.len() / 2 + random.within(1, 3),
@@ -230,9 +291,62 @@ pub fn spoil(random: &mut Random, table: &mut [u32], used: usize) -> usize {
                 _ => node[random.below(2)] = random.number() as u32 | 1 << 31,
             }
         }
+        7..=12 if used > 1 => {
+            // Two equal nodes: the last and one before it, or any two.
+            let later = if random.once_in(2) {
+                used - 1
+            } else {
+                random.within(1, used - 1)
+            };
+            let earlier = random.below(later);
+            table.copy_within(2 * earlier..2 * earlier + 2, 2 * later);
+        }
         _ => {}
     }
     used
+}
+
+/// A table of so many words: the rest is cut off, or noise is added.
+fn resize(random: &mut Random, noise: &Noise, table: &mut Vec<u32>, words: usize) {
+    let words = words.min(131_073);
+    if words <= table.len() {
+        return table.truncate(words);
+    }
+    let more = noise.memory(random, words, 0, 0).table;
+    table.extend_from_slice(&more[table.len()..]);
+}
+
+/// At times the memory at a border of what a call needs that wants at most `most` new nodes: with just
+/// enough nodes, one too few or one more; or with all that it makes in use already, and no free node or
+/// one. Else the memory as it is.
+fn tight<const N: usize>(
+    random: &mut Random,
+    noise: &Noise,
+    (mut memory, used): (Memory, usize),
+    most: usize,
+    call: impl FnOnce(&mut Memory) -> [usize; N],
+) -> (Memory, usize) {
+    if !random.once_in(3) || used > memory.table.len() / 2 {
+        return (memory, used);
+    }
+    let mut large = memory.clone();
+    large.table.truncate(2 * used);
+    large.table.resize((2 * (used + most)).min(131_072), 7);
+    let answer = call(&mut large);
+    if answer[0] != 0 {
+        return (memory, used);
+    }
+    let end = answer[2];
+    if random.once_in(3) {
+        large.table.truncate(2 * end);
+        memory.table = large.table;
+        let words = 2 * end + random.below(4);
+        resize(random, noise, &mut memory.table, words);
+        return (memory, end);
+    }
+    let words = 2 * random.near(end) + random.below(2);
+    resize(random, noise, &mut memory.table, words);
+    (memory, used)
 }
 
 /// A count of words for a stack.
@@ -268,17 +382,14 @@ fn read(random: &mut Random, noise: &Noise) -> Call {
         _ => trees::text(random),
     };
     let words = stack(random);
-    let (mut memory, used) = memory(random, noise, words, 0);
-    if random.once_in(3) && used <= memory.table.len() / 2 {
-        // Just enough nodes, one too few or one more.
-        let words = 2 * random.near(used + text.len()) + random.below(2);
-        let more = noise.memory(random, words.min(131_073), 0, 0).table;
-        let keep = (2 * used).min(more.len());
-        memory.table.truncate(keep);
-        memory.table.extend_from_slice(&more[keep..]);
-    }
-    both(
-        memory,
+    let found = memory(random, noise, words, 0);
+    let before = found.1;
+    let (memory, used) = tight(random, noise, found, text.len(), |m| {
+        model::read(m, before, &text)
+    });
+    making(
+        &memory,
+        used,
         || {
             format!(
                 "{used} nodes in use, text {}",
@@ -310,8 +421,8 @@ fn write(random: &mut Random, noise: &Noise) -> Call {
             memory.out.resize(random.near(answer[4]), b'?');
         }
     }
-    both(
-        memory,
+    let mut call = both(
+        &memory,
         || format!("node {node}, {used} nodes in use"),
         |m| {
             answer_of(lazvorn::write(
@@ -323,7 +434,10 @@ fn write(random: &mut Random, noise: &Noise) -> Call {
             ))
         },
         |m| model::write(m, used, node),
-    )
+    );
+    let equal = call.refusal == 2 && equal_nodes(&memory.table, used);
+    call.kind = equal.then_some(0);
+    call
 }
 
 fn translate(random: &mut Random, noise: &Noise) -> Call {
@@ -334,21 +448,25 @@ fn translate(random: &mut Random, noise: &Noise) -> Call {
         _ => trees::rule(random),
     };
     let words = stack(random);
-    let (mut memory, used) = memory(random, noise, words, 0);
-    if random.once_in(3) && used <= memory.table.len() / 2 {
-        // About as many nodes or frames as the rule's tree wants.
-        if let Some(text) = model::tree_text(&bytes, 20_000) {
-            let words = (2 * random.near(used + text.len()) + random.below(2)).min(131_072);
-            let stack = (6 * text.len() + random.below(3)).saturating_sub(random.below(2));
-            let more = noise.memory(random, words, stack.min(65_537), 0);
-            let keep = (2 * used).min(words);
-            memory.table.truncate(keep);
-            memory.table.extend_from_slice(&more.table[keep..]);
-            memory.stack = more.stack;
+    let (mut memory, before) = memory(random, noise, words, 0);
+    let mut most = 0;
+    if random.once_in(2) {
+        // Just enough frames for the rule's tree, or one word too few. The largest is the largest that
+        // frames suffice for.
+        let largest = if random.once_in(50) { 10_922 } else { 1_000 };
+        if let Some(text) = model::tree_text(&bytes, largest) {
+            most = text.len();
+            let words = 6 * most + random.below(3);
+            let words = words.saturating_sub(random.below(2) * random.below(2));
+            memory.stack = noise.memory(random, 0, words.min(65_537), 0).stack;
         }
     }
-    both(
-        memory,
+    let (memory, used) = tight(random, noise, (memory, before), most, |m| {
+        model::translate(m, before, &bytes)
+    });
+    making(
+        &memory,
+        used,
         || format!("{used} nodes in use, rule {}", hexadecimal(&bytes)),
         |m| answer_of(lazvorn::translate(&mut m.table, used, &mut m.stack, &bytes)),
         |m| model::translate(m, used, &bytes),
@@ -357,44 +475,40 @@ fn translate(random: &mut Random, noise: &Noise) -> Call {
 
 fn apply(random: &mut Random, noise: &Noise) -> Call {
     let words = stack(random);
-    let (mut memory, used) = memory(random, noise, words, 0);
-    let (function, argument) = (node(random, used), node(random, used));
+    let (memory, before) = memory(random, noise, words, 0);
+    let nodes = [node(random, before), node(random, before)];
     let mut limit = match random.below(80) {
         0 => *random.pick(&[1_000_001, usize::MAX, 1 << 32]),
         1 => 1_000_000,
         2..=40 => random.below(40),
         _ => random.below(3_000),
     };
-    if random.once_in(3) {
-        // Just enough steps or nodes, one too few or one more.
-        let mut large = memory.clone();
-        large
-            .table
-            .resize(large.table.len().min(131_072) + 4_000, 7);
-        large.table.truncate(131_072);
-        let answer = model::apply(&mut large, used, function, argument, 3_000);
-        if answer[0] == 0 {
-            if random.once_in(2) {
-                limit = random.near(answer[3]);
-            } else {
-                memory
-                    .table
-                    .resize(2 * random.near(answer[2]) + random.below(2), 7);
-            }
-        }
+    let mut steps = None;
+    let (memory, used) = tight(random, noise, (memory, before), 2_000, |m| {
+        let answer = model::apply(m, before, nodes[0], nodes[1], 3_000);
+        steps = Some(answer[3]).filter(|_| answer[0] == 0);
+        answer
+    });
+    if let Some(steps) = steps {
+        // Just enough steps, one too few or one more; or as many as may be taken.
+        limit = match random.below(3) {
+            0 => random.near(steps),
+            _ => 3_000,
+        };
     }
-    apply_in(memory, used, [function, argument], limit)
+    apply_in(&memory, used, nodes, limit)
 }
 
 /// Apply of one node to another in a memory.
 pub fn apply_in(
-    memory: Memory,
+    memory: &Memory,
     used: usize,
     [function, argument]: [usize; 2],
     limit: usize,
 ) -> Call {
-    both(
+    making(
         memory,
+        used,
         || format!("{function} to {argument}, limit {limit}, {used} nodes in use"),
         |m| {
             counted_of(lazvorn::apply(
@@ -411,14 +525,14 @@ pub fn apply_in(
 }
 
 fn label(random: &mut Random, noise: &Noise) -> Call {
-    let (mut memory, used) = memory(random, noise, 5, 5);
-    let (rule, label) = (node(random, used), node(random, used));
-    if random.once_in(3) && used <= memory.table.len() / 2 {
-        let words = 2 * random.near(used + LABEL_NODES) + random.below(2);
-        memory.table.resize(words, 3);
-    }
-    both(
-        memory,
+    let (memory, before) = memory(random, noise, 5, 5);
+    let (rule, label) = (node(random, before), node(random, before));
+    let (memory, used) = tight(random, noise, (memory, before), LABEL_NODES, |m| {
+        model::label(m, before, rule, label)
+    });
+    making(
+        &memory,
+        used,
         || format!("{rule} with {label}, {used} nodes in use"),
         |m| answer_of(lazvorn::label(&mut m.table, used, rule, label)),
         |m| model::label(m, used, rule, label),

@@ -9,8 +9,7 @@ use crate::{Counts, Noise};
 use compare::packets::{Parts, PROGRAM};
 use compare::random::Random;
 use compare::{counted_of, trees, LABEL_NODES, PAPERS};
-use model::{Counted, Memory};
-use std::collections::HashSet;
+use model::{same_tree, Counted, Memory};
 
 /// How many more uses of leaf, stem, drop, spread and triage, and how many steps that is.
 const MORE: [usize; 5] = [0, 1, 3, 2, 0];
@@ -94,25 +93,6 @@ fn applied(memory: &mut Memory, used: usize, nodes: [usize; 2], limit: usize) ->
     ))
 }
 
-/// Whether two nodes, each of a table of its own, have the same tree. No pair of nodes is looked at
-/// twice, however often branches are shared.
-fn same_tree(a: (&[u32], usize), b: (&[u32], usize)) -> bool {
-    let (mut pairs, mut seen) = (vec![(a.1, b.1)], HashSet::new());
-    while let Some((x, y)) = pairs.pop() {
-        if !seen.insert((x, y)) {
-            continue;
-        }
-        for i in 0..2 {
-            match (a.0[2 * x + i] as usize, b.0[2 * y + i] as usize) {
-                (0, 0) => {}
-                (0, _) | (_, 0) => return false,
-                (p, q) => pairs.push((p - 1, q - 1)),
-            }
-        }
-    }
-    true
-}
-
 impl Compared {
     /// Labels a rule and applies it with just enough steps, one too few or one more. Where the rule alone
     /// lacks steps, the labelled one does with six more.
@@ -127,7 +107,7 @@ impl Compared {
             _ => LIMIT + STEPS,
         };
         let nodes = [made.node, argument];
-        let call = apply_in(labelled.clone(), made.used, nodes, limit);
+        let call = apply_in(&labelled, made.used, nodes, limit);
         let answer = applied(&mut labelled, made.used, nodes, limit);
         self.counts[call.refusal] += 1;
 

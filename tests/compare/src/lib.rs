@@ -7,16 +7,16 @@ pub mod random;
 pub mod texts;
 pub mod trees;
 
-/// What the second evaluator goes by: document 01 and, of document 02, [2], [1] and [4]. It tells the
-/// uses of each rule ([5]) whatever holds.
+/// What the second evaluator goes by: document 01 and, of document 02, [2], [1], [4] and [8]. It tells
+/// the uses of each rule ([5]) whatever holds.
 pub const PAPERS: second::Papers = second::Papers {
     default_limit: 100_000,
     labels: true,
     constant_labels: true,
-    ..second::DOCUMENT_01
+    shared: true,
 };
 
-/// "Eight nodes are needed" to label a rule ([4]).
+/// "Eight nodes are needed" to label a rule ([4]); since [8] fewer of them are new, the leaf at least being there.
 pub const LABEL_NODES: usize = 8;
 
 /// What the second evaluator says of a packet's labelled rule, as the program `label_packet` prints it.
@@ -48,6 +48,11 @@ pub fn parts_of(parts: lazvorn::Parts) -> model::Parts {
         parts.digits,
         parts.label,
     ]
+}
+
+/// The same of an answer about two nodes.
+pub fn same_of(same: lazvorn::Same) -> model::Same {
+    [same.refusal, same.equal]
 }
 
 /// The same of an answer of Apply or Run, with the uses of each rule.

@@ -3,9 +3,10 @@
 //! every lent word and byte. Labelled rules are held to the rules alone too, and rule texts printed from
 //! random expressions to the expressions. Prints each difference, of rule texts the first few, how often
 //! each refusal was met, how many packets used each rule, what became of labels, how often each stage of
-//! a labelling lacked room, what kinds of trees were taken apart, and how many labelled rules ran beside
-//! a label, or were rules, that never ended. The exit status is 1 where anything differs, and where one
-//! of these that can be met was met too seldom for the run to mean something.
+//! a labelling lacked room, how many calls had two equal nodes or no free node, what kinds of trees were
+//! taken apart or compared, and how many labelled rules ran beside a label, or were rules, that never
+//! ended. The exit status is 1 where anything differs, and where one of these that can be met was met too
+//! seldom for the run to mean something.
 //!
 //! `compare [PACKETS [SEED]]`
 
@@ -15,6 +16,7 @@ mod labelled_rules;
 mod labels;
 mod rule_texts;
 mod runs;
+mod same;
 mod unlabel;
 
 use compare::packets::{self, WRONG_LABELS};
@@ -35,8 +37,8 @@ const LABELLED_RULES: usize = 4_000;
 
 /// How often a packet that is run must meet each refusal from 4 to 10, in how many that succeed each
 /// rule must be used, how often each kind of label must be met, how often a labelling must meet each
-/// refusal and lack each thing that it can, how many trees of each kind must be taken apart, and how
-/// often a labelled rule must end, lack a step, have a label that never ends, and never end itself.
+/// refusal and lack each thing that it can, how many calls of each kind must be made, and how often a
+/// labelled rule must end, lack a step, have a label that never ends, and never end itself.
 const SELDOM: usize = 100;
 
 const RULES: [&str; 5] = ["leaf", "stem", "drop", "spread", "triage"];
@@ -187,7 +189,8 @@ fn compare_packets(random: &mut Random, noise: &Noise, packets: usize) -> usize 
     differences
 }
 
-/// Compares calls of each operation; how many differ, and how many refusals were never met.
+/// Compares calls of each operation; how many differ, how many refusals were never met, and how many kinds
+/// of calls too seldom.
 fn compare_calls(random: &mut Random, noise: &Noise) -> usize {
     let mut differences = 0;
     for operation in calls::OPERATIONS {
@@ -199,11 +202,9 @@ fn compare_calls(random: &mut Random, noise: &Noise) -> usize {
                 differences += 1;
             }
         }
-        if !operation.kinds.is_empty() {
-            let kinds = operation.kinds.iter().zip(compared.kinds);
-            let kinds = kinds.map(|(kind, n)| (kind.to_string(), n)).collect();
-            differences += print_met("trees", &kinds);
-        }
+        let kinds = operation.kinds.iter().zip(compared.kinds);
+        let kinds = kinds.map(|(kind, n)| (kind.to_string(), n)).collect();
+        differences += print_met("calls", &kinds);
         differences += compared.differences;
     }
     differences

@@ -3,7 +3,7 @@
 //! a packet needs.
 
 use crate::random::Random;
-use crate::{trees, LABEL_NODES};
+use crate::trees;
 
 /// The parts of a packet that is well formed as far as its fields go.
 #[derive(Clone)]
@@ -191,10 +191,15 @@ fn endless(random: &mut Random) -> Parts {
     } else {
         trees::text_of(&rule)
     };
+    // Many of these use no new node after a while, so that only the limit ends them.
+    let limit = match limit(random) {
+        None if !random.once_in(8) => Some(random.below(3_000) as u32),
+        limit => limit,
+    };
     Parts {
         rule,
         arguments: vec![argument],
-        limit: limit(random),
+        limit,
         label: label(random),
     }
 }
@@ -432,19 +437,36 @@ pub fn at_border(
 }
 
 /// A case whose labelling succeeded with these numbers, with just enough nodes for Translate, for the
-/// label's Read or for Label, or just enough out bytes for Write; one too few of it or one more.
+/// label's Read, for Label or for a part of its nodes, or just enough out bytes for Write; one too few of
+/// it or one more.
 pub fn at_label_border(random: &mut Random, case: &Case, used: usize, digits: usize) -> Case {
     let mut case = case.clone();
-    let text = case.parts.as_ref().and_then(|parts| parts.label.as_ref());
-    let read = used - LABEL_NODES;
-    let translated = read - text.map_or(0, |text| text.len());
-    match random.below(4) {
+    let [translated, read] = nodes_before_label(&case);
+    match random.below(5) {
         0 => case.room.table = nodes_near(random, translated),
         1 => case.room.table = nodes_near(random, read),
-        2 => case.room.table = nodes_near(random, used),
+        2 => {
+            let nodes = random.within(read, used);
+            case.room.table = nodes_near(random, nodes);
+        }
+        3 => case.room.table = nodes_near(random, used),
         _ => case.room.out = random.near(digits),
     }
     case
+}
+
+/// How many nodes the model uses after Translate and after the label's Read, in the room of a case whose
+/// labelling succeeded.
+fn nodes_before_label(case: &Case) -> [usize; 2] {
+    let parts = case.parts.as_ref().expect("parts of a packet");
+    let label = parts.label.as_ref().expect("a label");
+    let mut memory = model::Memory {
+        table: vec![0; case.room.table],
+        stack: vec![0; case.room.stack],
+        out: Vec::new(),
+    };
+    let translated = model::translate(&mut memory, 0, &parts.rule)[2];
+    [translated, model::read(&mut memory, translated, label)[2]]
 }
 
 /// Words for so many nodes, one less or one more, and at times a word that is no node's.

@@ -79,6 +79,15 @@ pub struct Parts {
     pub label: usize,
 }
 
+/// The two numbers of an answer about two nodes. A refusal has 0 for the other.
+#[derive(Clone, Copy, Debug, Default, PartialEq, Eq)]
+pub struct Same {
+    /// 0 for success, else the refusal's number.
+    pub refusal: usize,
+    /// 1 if the trees are equal, else 0.
+    pub equal: usize,
+}
+
 /// The two numbers of an answer about a rule text. A refusal has 0 for the bytes.
 #[derive(Clone, Copy, Debug, Default, PartialEq, Eq)]
 pub struct TextNumbers {
@@ -90,7 +99,7 @@ pub struct TextNumbers {
 
 /// Table or stack too long, `used` above the capacity, out bytes or step limit too large.
 pub const LIMITS: usize = 1;
-/// A used node is broken.
+/// A used node is broken, or two used nodes are equal.
 pub const BROKEN: usize = 2;
 /// A node number is not below `used`.
 pub const NODE: usize = 3;
@@ -102,7 +111,7 @@ pub const RULE: usize = 5;
 pub const PACKET: usize = 6;
 /// The step limit is reached.
 pub const STEPS: usize = 7;
-/// A new node has no place.
+/// A node that is not in the table is wanted, and the table is full.
 pub const NODES: usize = 8;
 /// Every frame is held.
 pub const FRAMES: usize = 9;
@@ -173,6 +182,14 @@ mod raw {
             used: usize,
             node: usize,
             answer: *mut [usize; 6],
+        );
+        pub fn lazvorn_same(
+            table: *const u32,
+            table_len: usize,
+            used: usize,
+            a: usize,
+            b: usize,
+            answer: *mut [usize; 2],
         );
         pub fn lazvorn_run(
             table: *mut u32,
@@ -324,8 +341,8 @@ pub fn apply(
     })
 }
 
-/// Labels the rule at node `rule` with the tree of node `label`: eight new nodes. On any argument the
-/// labelled tree gives the rule's tree in six more steps; the label is not run.
+/// Labels the rule at node `rule` with the tree of node `label`: at most eight new nodes. On any argument
+/// the labelled tree gives the rule's tree in six more steps; the label is not run.
 pub fn label(table: &mut [u32], used: usize, rule: usize, label: usize) -> Numbers {
     numbers(|answer| unsafe {
         raw::lazvorn_label(table.as_mut_ptr(), table.len(), used, rule, label, answer)
@@ -347,6 +364,14 @@ pub fn unlabel(table: &[u32], used: usize, node: usize) -> Parts {
         digits,
         label,
     }
+}
+
+/// Whether the nodes `a` and `b` have the same tree, however large it is.
+pub fn same(table: &[u32], used: usize, a: usize, b: usize) -> Same {
+    let mut answer = [usize::MAX; 2];
+    unsafe { raw::lazvorn_same(table.as_ptr(), table.len(), used, a, b, &mut answer) };
+    let [refusal, equal] = answer;
+    Same { refusal, equal }
 }
 
 /// An exported function that reads a packet and writes N numbers.

@@ -3,8 +3,8 @@
 //! one too few of each, so that an argument in another's place, or a length that is lost, shows.
 
 use lazvorn::{
-    Counted, Numbers, Parts, TextNumbers, Uses, BROKEN, FRAMES, LIMITS, NODE, NODES, NOT_LABELLED,
-    OUT, PACKET, RULE, RULE_TEXT, STEPS, TEXT,
+    Counted, Numbers, Parts, Same, TextNumbers, Uses, BROKEN, FRAMES, LIMITS, NODE, NODES,
+    NOT_LABELLED, OUT, PACKET, RULE, RULE_TEXT, STEPS, TEXT,
 };
 
 /// Fills memory that is to be left as found, or overwritten.
@@ -20,7 +20,7 @@ fn table(words: usize) -> Vec<u32> {
 
 /// The table and the stack of a call lie inside larger ones, so that a call that writes past a
 /// length shows.
-#[derive(Debug, PartialEq)]
+#[derive(Clone, Debug, PartialEq)]
 struct Lent {
     table: Vec<u32>,
     stack: Vec<u32>,
@@ -75,10 +75,10 @@ impl Lent {
         Lent::new(words - BEYOND, stack - BEYOND, out - BEYOND)
     }
 
-    /// What 7 to 10 leave where so many nodes were made: their words and the stack are 0.
-    fn is_undone(&self, nodes: usize) {
+    /// What 7 to 10 leave where these nodes were made: their words and the stack are 0.
+    fn is_undone(&self, nodes: std::ops::Range<usize>) {
         let mut undone = self.as_found();
-        undone.table[..2 * nodes].fill(0);
+        undone.table[2 * nodes.start..2 * nodes.end].fill(0);
         let stack = undone.stack.len() - BEYOND;
         undone.stack[..stack].fill(0);
         assert_eq!(*self, undone);
@@ -101,36 +101,56 @@ fn refused_uses(refusal: usize, used: usize) -> Counted {
     }
 }
 
+fn read_in(words: usize, stack: usize, used: usize, text: &[u8]) -> (Numbers, Lent) {
+    let mut lent = Lent::new(words, stack, 0);
+    let (t, s, _) = lent.parts();
+    let numbers = lazvorn::read(t, used, s, text);
+    lent.nothing_beyond();
+    (numbers, lent)
+}
+
 #[test]
 fn read() {
-    let call = |words, stack, used, text: &[u8]| {
-        let mut lent = Lent::new(words, stack, 0);
-        let (t, s, _) = lent.parts();
-        let numbers = lazvorn::read(t, used, s, text);
-        lent.nothing_beyond();
-        (numbers, lent)
-    };
-    let text = &b"210100101"[..5];
-    let (numbers, lent) = call(16, 7, 3, text);
+    let call = read_in;
+    // The fork of 110 and 10: leaf and stem are there, and 110 and the whole are new.
+    let text = &b"211010101"[..6];
+    let (numbers, lent) = call(10, 7, 3, text);
     assert_eq!(
         numbers,
         Numbers {
-            node: 7,
-            used: 8,
+            node: 4,
+            used: 5,
             ..Numbers::default()
         }
     );
-    assert_eq!(
-        lent.table[..16],
-        [0, 0, 1, 0, 1, 2, 0, 0, 4, 0, 0, 0, 6, 0, 7, 5]
-    );
+    assert_eq!(lent.table[..10], [0, 0, 1, 0, 1, 2, 2, 0, 4, 2]);
     lent.stack_is_zero();
-    assert_eq!(call(15, 7, 3, text).0, refused(NODES, 3));
-    assert_eq!(call(16, 5, 3, text).0, refused(FRAMES, 3));
-    assert_eq!(call(16, 7, 3, &b"210100101"[..4]).0, refused(TEXT, 3));
-    assert_eq!(call(16, 7, 4, text).0, refused(BROKEN, 4));
-    assert_eq!(call(16, 7, 9, text).0, refused(LIMITS, 9));
-    assert_eq!(call(16, 7, usize::MAX, text).0, refused(LIMITS, usize::MAX));
+    // With room for one node it is made and cleared; 9 comes before a node is made.
+    let (numbers, lent) = call(9, 7, 3, text);
+    assert_eq!(numbers, refused(NODES, 3));
+    lent.is_undone(3..4);
+    let (numbers, lent) = call(9, 5, 3, text);
+    assert_eq!(numbers, refused(FRAMES, 3));
+    lent.is_undone(3..3);
+    assert_eq!(call(10, 5, 3, text).0, refused(FRAMES, 3));
+    assert_eq!(call(10, 7, 3, &b"211010101"[..4]).0, refused(TEXT, 3));
+    assert_eq!(call(10, 7, 4, text).0, refused(BROKEN, 4));
+    assert_eq!(call(10, 7, 6, text).0, refused(LIMITS, 6));
+    assert_eq!(call(10, 7, usize::MAX, text).0, refused(LIMITS, usize::MAX));
+}
+
+/// In a full table every tree that is there is found.
+#[test]
+fn read_into_a_full_table() {
+    for (text, node) in [(&b"0"[..], 0), (b"10", 1), (b"2010", 2)] {
+        let found = Numbers {
+            node,
+            used: 3,
+            ..Numbers::default()
+        };
+        assert_eq!(read_in(6, 7, 3, text).0, found);
+    }
+    assert_eq!(read_in(6, 7, 3, b"110").0, refused(NODES, 3));
 }
 
 #[test]
@@ -174,37 +194,48 @@ fn translate() {
         (numbers, lent)
     };
     // The rule 02 00, of three nodes, wants six frames.
+    // Its leaf is there, and KΔ, 200, is new.
     let bytes = &[2, 0, 0, 0][..2];
-    let (numbers, lent) = call(13, 20, 3, bytes);
+    let (numbers, lent) = call(9, 20, 3, bytes);
     assert_eq!(
         numbers,
         Numbers {
-            node: 5,
-            used: 6,
+            node: 3,
+            used: 4,
             ..Numbers::default()
         }
     );
-    assert_eq!(
-        lent.table[..13],
-        [0, 0, 1, 0, 1, 2, 0, 0, 0, 0, 5, 4, NOISE]
-    );
+    assert_eq!(lent.table[..9], [0, 0, 1, 0, 1, 2, 1, 1, NOISE]);
     lent.stack_is_zero();
-    assert_eq!(call(11, 20, 3, bytes).0, refused(NODES, 3));
-    assert_eq!(call(13, 17, 3, bytes).0, refused(FRAMES, 3));
-    assert_eq!(call(13, 20, 3, &[2, 0, 0][..3]).0, refused(RULE, 3));
-    assert_eq!(call(13, 20, 3, &bytes[..1]).0, refused(RULE, 3));
-    assert_eq!(call(13, 20, 5, bytes).0, refused(BROKEN, 5));
-    assert_eq!(call(13, 20, 7, bytes).0, refused(LIMITS, 7));
+    let (numbers, lent) = call(7, 20, 3, bytes);
+    assert_eq!(numbers, refused(NODES, 3));
+    lent.is_undone(3..3);
+    // 9 comes before 8, by the three nodes of the tree and not by the one that is new.
+    assert_eq!(call(7, 17, 3, bytes).0, refused(FRAMES, 3));
+    assert_eq!(call(9, 17, 3, bytes).0, refused(FRAMES, 3));
+    assert_eq!(call(9, 20, 3, &[2, 0, 0][..3]).0, refused(RULE, 3));
+    assert_eq!(call(9, 20, 3, &bytes[..1]).0, refused(RULE, 3));
+    assert_eq!(call(9, 20, 4, bytes).0, refused(BROKEN, 4));
+    assert_eq!(call(9, 20, 5, bytes).0, refused(LIMITS, 5));
+}
+
+fn apply_in(
+    [words, stack]: [usize; 2],
+    used: usize,
+    [function, argument]: [usize; 2],
+    limit: usize,
+) -> (Counted, Lent) {
+    let mut lent = Lent::new(words, stack, 0);
+    let (t, s, _) = lent.parts();
+    let numbers = lazvorn::apply(t, used, s, function, argument, limit);
+    lent.nothing_beyond();
+    (numbers, lent)
 }
 
 #[test]
 fn apply() {
     let call = |words, stack, used, function, argument, limit| {
-        let mut lent = Lent::new(words, stack, 0);
-        let (t, s, _) = lent.parts();
-        let numbers = lazvorn::apply(t, used, s, function, argument, limit);
-        lent.nothing_beyond();
-        (numbers, lent)
+        apply_in([words, stack], used, [function, argument], limit)
     };
     // The stem on the fork makes the fork of the leaf and it.
     let (numbers, lent) = call(9, 5, 3, 1, 2, 1);
@@ -223,6 +254,18 @@ fn apply() {
     );
     assert_eq!(lent.table[..9], [0, 0, 1, 0, 1, 2, 1, 3, NOISE]);
     lent.stack_is_zero();
+    assert_eq!(call(9, 5, 3, 1, 2, 0).0, refused_uses(STEPS, 3));
+    assert_eq!(call(7, 5, 3, 1, 2, 0).0, refused_uses(STEPS, 3));
+    assert_eq!(call(7, 5, 3, 1, 2, 1).0, refused_uses(NODES, 3));
+    assert_eq!(call(9, 5, 3, 3, 2, 1).0, refused_uses(NODE, 3));
+    assert_eq!(call(9, 5, 3, 1, 3, 1).0, refused_uses(NODE, 3));
+    assert_eq!(call(9, 5, 3, 1, 2, 1_000_001).0, refused_uses(LIMITS, 3));
+    assert_eq!(call(9, 5, 4, 1, 2, 1).0, refused_uses(BROKEN, 4));
+    assert_eq!(call(9, 65_537, 3, 1, 2, 1).0, refused_uses(LIMITS, 3));
+}
+
+#[test]
+fn apply_without_a_new_node() {
     // The fork of the leaf and the stem drops the leaf it is applied to.
     let dropped = Counted {
         node: 1,
@@ -234,14 +277,21 @@ fn apply() {
         },
         ..Counted::default()
     };
-    assert_eq!(call(9, 5, 3, 2, 0, 1).0, dropped);
-    assert_eq!(call(9, 5, 3, 1, 2, 0).0, refused_uses(STEPS, 3));
-    assert_eq!(call(7, 5, 3, 1, 2, 1).0, refused_uses(NODES, 3));
-    assert_eq!(call(9, 5, 3, 3, 2, 1).0, refused_uses(NODE, 3));
-    assert_eq!(call(9, 5, 3, 1, 3, 1).0, refused_uses(NODE, 3));
-    assert_eq!(call(9, 5, 3, 1, 2, 1_000_001).0, refused_uses(LIMITS, 3));
-    assert_eq!(call(9, 5, 4, 1, 2, 1).0, refused_uses(BROKEN, 4));
-    assert_eq!(call(9, 65_537, 3, 1, 2, 1).0, refused_uses(LIMITS, 3));
+    assert_eq!(apply_in([9, 5], 3, [2, 0], 1).0, dropped);
+    // The stem on the stem is the fork that is there: a full table has it.
+    let found = Counted {
+        node: 2,
+        used: 3,
+        steps: 1,
+        uses: Uses {
+            stem: 1,
+            ..Uses::default()
+        },
+        ..Counted::default()
+    };
+    assert_eq!(apply_in([6, 5], 3, [1, 1], 1).0, found);
+    assert_eq!(apply_in([9, 5], 3, [1, 1], 1).0, found);
+    assert_eq!(apply_in([6, 5], 3, [1, 1], 0).0, refused_uses(STEPS, 3));
 }
 
 #[test]
@@ -253,43 +303,54 @@ fn label() {
         lent.nothing_beyond();
         (numbers, lent)
     };
-    let (numbers, lent) = call(23, 3, 2, 1);
+    // Leaf, K and KK are there, and five are new.
+    let (numbers, lent) = call(17, 3, 1, 2);
     assert_eq!(
         numbers,
         Numbers {
-            node: 10,
-            used: 11,
+            node: 7,
+            used: 8,
             ..Numbers::default()
         }
     );
-    assert_eq!(lent.table[..22], LABELLED);
-    assert_eq!(lent.table[22], NOISE);
-    assert_eq!(call(21, 3, 2, 1).0, refused(NODES, 3));
-    assert_eq!(call(23, 3, 3, 1).0, refused(NODE, 3));
-    assert_eq!(call(23, 3, 2, 3).0, refused(NODE, 3));
-    assert_eq!(call(23, 4, 2, 1).0, refused(BROKEN, 4));
-    assert_eq!(call(23, 12, 2, 1).0, refused(LIMITS, 12));
+    assert_eq!(lent.table[..16], LABELLED);
+    assert_eq!(lent.table[16], NOISE);
+    for nodes in 3..8 {
+        let (numbers, lent) = call(2 * nodes + 1, 3, 1, 2);
+        assert_eq!(numbers, refused(NODES, 3));
+        lent.is_undone(3..nodes);
+    }
+    // Of KK with K for a label Kt is KK, and Δ(Kt) is Δf: three are new.
+    assert_eq!(call(12, 3, 2, 1).0.used, 6);
+    assert_eq!(call(11, 3, 2, 1).0, refused(NODES, 3));
+    assert_eq!(call(17, 3, 3, 2).0, refused(NODE, 3));
+    assert_eq!(call(17, 3, 1, 3).0, refused(NODE, 3));
+    assert_eq!(call(17, 4, 1, 2).0, refused(BROKEN, 4));
+    assert_eq!(call(17, 9, 1, 2).0, refused(LIMITS, 9));
 }
+
+fn run_in([words, stack, out]: [usize; 3], packet: &[u8]) -> (Counted, Lent) {
+    let mut lent = Lent::new(words, stack, out);
+    let (t, s, o) = lent.parts();
+    let numbers = lazvorn::run(t, s, o, packet);
+    lent.nothing_beyond();
+    (numbers, lent)
+}
+
+/// The paper's packet, of 13 bytes, and one byte more.
+const PAPER: &[u8; 14] = b"\x01\x00\x06\x02\x01\x03\x00\x03\x00\x02\x00\x0100";
 
 #[test]
 fn run() {
-    let call = |words, stack, out, packet: &[u8]| {
-        let mut lent = Lent::new(words, stack, out);
-        let (t, s, o) = lent.parts();
-        let numbers = lazvorn::run(t, s, o, packet);
-        lent.nothing_beyond();
-        (numbers, lent)
-    };
-    // The paper's packet: λx. x x on the leaf gives 10 in 10 steps and 18 nodes. The rule's tree
+    // The paper's packet: λx. x x on the leaf gives 10 in 10 steps and 6 nodes. The rule's tree
     // spreads, and so does λx. x on the leaf, twice; each of these takes a stem, a leaf and a drop,
-    // and the last application is the leaf on the leaf.
-    let bytes = b"\x01\x00\x06\x02\x01\x03\x00\x03\x00\x02\x00\x0100";
-    let packet = &bytes[..13];
-    let (numbers, lent) = call(37, 73, 3, packet);
+    // and the last application is the leaf on the leaf. The rule's are 0, 10, 21010, 121010 and the
+    // whole, and the stem makes 200.
+    let (numbers, lent) = run_in([13, 73, 3], &PAPER[..13]);
     assert_eq!(
         numbers,
         Counted {
-            used: 18,
+            used: 6,
             steps: 10,
             digits: 2,
             uses: Uses {
@@ -303,23 +364,44 @@ fn run() {
         }
     );
     assert_eq!(lent.out[..3], [b'1', b'0', BYTE]);
-    assert_eq!(lent.table[36], NOISE);
+    assert_eq!(
+        lent.table[..13],
+        [0, 0, 1, 0, 2, 2, 3, 0, 4, 3, 1, 1, NOISE]
+    );
     lent.stack_is_zero();
-    assert_eq!(call(35, 73, 3, packet).0, refused_uses(NODES, 0));
-    assert_eq!(call(37, 71, 3, packet).0, refused_uses(FRAMES, 0));
-    assert_eq!(call(37, 73, 1, packet).0, refused_uses(OUT, 0));
-    assert_eq!(call(37, 73, 3, &bytes[..14]).0, refused_uses(PACKET, 0));
-    assert_eq!(call(37, 73, 3, &bytes[..12]).0, refused_uses(PACKET, 0));
-    assert_eq!(call(131_073, 73, 3, packet).0, refused_uses(LIMITS, 0));
-    assert_eq!(call(37, 65_537, 3, packet).0, refused_uses(LIMITS, 0));
-    assert_eq!(call(37, 73, 65_536, packet).0, refused_uses(LIMITS, 0));
+}
+
+#[test]
+fn run_refused() {
+    let packet = &PAPER[..13];
+    let undone = |room: [usize; 3], refusal, nodes| {
+        let (numbers, lent) = run_in(room, packet);
+        assert_eq!(numbers, refused_uses(refusal, 0));
+        lent.is_undone(0..nodes);
+    };
+    // 8 by Apply and by Translate; 9 by Translate, before its 8; 10 by Write.
+    undone([11, 73, 3], NODES, 5);
+    undone([9, 73, 3], NODES, 4);
+    undone([9, 71, 3], FRAMES, 0);
+    undone([13, 71, 3], FRAMES, 0);
+    undone([13, 73, 1], OUT, 6);
+    let unchanged = |room: [usize; 3], packet: &[u8], refusal| {
+        let (numbers, lent) = run_in(room, packet);
+        assert_eq!(numbers, refused_uses(refusal, 0));
+        assert_eq!(lent, lent.as_found());
+    };
+    unchanged([13, 73, 3], &PAPER[..14], PACKET);
+    unchanged([13, 73, 3], &PAPER[..12], PACKET);
+    unchanged([131_073, 73, 3], packet, LIMITS);
+    unchanged([13, 65_537, 3], packet, LIMITS);
+    unchanged([13, 73, 65_536], packet, LIMITS);
 }
 
 /// "tree, steps and used are those of the packet without it", and so are all lent words and bytes.
 #[test]
 fn run_passes_over_a_label() {
     let call = |packet: &[&[u8]]| {
-        let mut lent = Lent::new(37, 73, 3);
+        let mut lent = Lent::new(13, 73, 3);
         let (t, s, o) = lent.parts();
         let numbers = lazvorn::run(t, s, o, &packet.concat());
         (numbers, lent)
@@ -328,7 +410,7 @@ fn run_passes_over_a_label() {
     let limit = b"\x03\x00\x04\x00\x00\x00\x0a";
     let label = b"\x04\x00\x0210";
     let without = call(&[packet]);
-    assert_eq!((without.0.refusal, without.0.used), (0, 18));
+    assert_eq!((without.0.refusal, without.0.used), (0, 6));
     assert_eq!(call(&[packet, label]), without);
     assert_eq!(call(&[packet, limit, label]), without);
     let refused = |parts: &[&[u8]], number| {
@@ -352,15 +434,15 @@ fn run_passes_over_a_label() {
     refused(&[open_rule, b"\x04\x00\x00"], RULE);
 }
 
-/// A packet of 14 bytes, and one byte more. The rule λx. Δ, 02 00, is KΔ: 200, three nodes, and Translate
-/// wants six frames. Its label is 10, two nodes, and Label makes eight.
+/// A packet of 14 bytes, and one byte more. The rule λx. Δ, 02 00, is KΔ, 200: of its three nodes two are
+/// different, and Translate wants six frames. Its label is 10, whose leaf is there, and Label makes five.
 const WITH_LABEL: &[u8; 15] = b"\x01\x00\x02\x02\x00\x02\x00\x010\x04\x00\x02100";
 
 /// The answer of `label_packet` to this packet.
 const LABELLED_RULE: Numbers = Numbers {
     refusal: 0,
     node: 0,
-    used: 13,
+    used: 8,
     steps: 0,
     digits: 15,
 };
@@ -379,25 +461,20 @@ fn refused_label_packet(room: [usize; 3], packet: &[u8], refusal: usize) -> Lent
     lent
 }
 
-/// Read lays digit p of n at node used + n - 1 - p.
 #[test]
 fn label_packet() {
     let packet = &WITH_LABEL[..14];
-    let (numbers, lent) = label_packet_in([27, 20, 16], packet);
+    let (numbers, lent) = label_packet_in([17, 20, 16], packet);
     assert_eq!(numbers, LABELLED_RULE);
-    // The rule's fork is node 2 and the label's stem node 4. Then leaf, its stem, their fork KK, the
-    // rule's stem, its fork with KK, the leaf's fork with the label, its stem, and the fork of this and
-    // the fork with KK.
-    assert_eq!(lent.table[..10], [0, 0, 0, 0, 2, 1, 0, 0, 4, 0]);
-    assert_eq!(
-        lent.table[10..27],
-        [0, 0, 6, 0, 6, 7, 3, 0, 9, 8, 6, 5, 11, 0, 12, 10, NOISE]
-    );
+    // The leaf, the rule's fork and the label's stem, which is K. Then KK, the rule's stem, its fork with
+    // KK, the stem of Kt, which is KK, and the fork of this and the fork with KK.
+    assert_eq!(lent.table[..6], [0, 0, 1, 1, 1, 0]);
+    assert_eq!(lent.table[6..17], [1, 3, 2, 0, 5, 4, 4, 0, 7, 6, NOISE]);
     // 2 1, 2 0 and the label, 2 1 and the rule, KK; the byte past the text stays.
     assert_eq!(lent.out[..16], *b"212010212002010\xa5");
     lent.nothing_beyond();
     lent.stack_is_zero();
-    assert_eq!(label_packet_in([26, 18, 15], packet).0, LABELLED_RULE);
+    assert_eq!(label_packet_in([16, 18, 15], packet).0, LABELLED_RULE);
     let most = [131_072, 65_536, 65_535];
     assert_eq!(label_packet_in(most, packet).0, LABELLED_RULE);
 }
@@ -406,21 +483,26 @@ fn label_packet() {
 fn label_packet_refused_by_its_stages() {
     let packet = &WITH_LABEL[..14];
     let undone = |room, refusal, nodes| {
-        refused_label_packet(room, packet, refusal).is_undone(nodes);
+        refused_label_packet(room, packet, refusal).is_undone(0..nodes);
     };
-    // 8 by Label, by Read, by Translate; 9 by Translate; 10 by Write, after all thirteen were made.
-    undone([25, 20, 16], NODES, 5);
-    undone([9, 20, 16], NODES, 3);
-    undone([5, 20, 16], NODES, 0);
+    // 8 by Label, by Read, by Translate; 9 by Translate, before its 8; 10 by Write, after all eight were
+    // made.
+    undone([15, 20, 16], NODES, 7);
+    undone([7, 20, 16], NODES, 3);
+    undone([5, 20, 16], NODES, 2);
+    undone([3, 20, 16], NODES, 1);
     undone([0, 20, 16], NODES, 0);
-    undone([27, 17, 16], FRAMES, 0);
-    undone([27, 0, 16], FRAMES, 0);
-    undone([27, 20, 14], OUT, 13);
-    undone([27, 20, 0], OUT, 13);
-    // 9 by Read: six forks, each in the first branch, leave seven trees pending.
+    undone([3, 17, 16], FRAMES, 0);
+    undone([17, 17, 16], FRAMES, 0);
+    undone([17, 0, 16], FRAMES, 0);
+    undone([17, 20, 14], OUT, 8);
+    undone([17, 20, 0], OUT, 8);
+    // 9 by Read: six forks, each in the first branch, leave seven trees pending. The innermost is the
+    // rule's tree; the other five are new, and so are seven of Label's.
     let deep = [&packet[..9], b"\x04\x00\x0d2222220000000"].concat();
-    refused_label_packet([48, 20, 26], &deep, FRAMES).is_undone(3);
-    assert_eq!(label_packet_in([48, 21, 26], &deep).0.used, 24);
+    refused_label_packet([28, 20, 26], &deep, FRAMES).is_undone(0..2);
+    refused_label_packet([27, 21, 26], &deep, NODES).is_undone(0..13);
+    assert_eq!(label_packet_in([28, 21, 26], &deep).0.used, 14);
 }
 
 #[test]
@@ -453,10 +535,8 @@ fn label_packet_refused_by_its_checks() {
     );
 }
 
-/// Node 10 is the rule at node 2 labelled with node 1: Label makes the nodes from 3 on.
-const LABELLED: [u32; 22] = [
-    0, 0, 1, 0, 1, 2, 0, 0, 4, 0, 4, 5, 3, 0, 7, 6, 4, 2, 9, 0, 10, 8,
-];
+/// Node 7 is the rule at node 1, K, labelled with node 2, KK: Label makes the nodes from 3 on.
+const LABELLED: [u32; 16] = [0, 0, 1, 0, 1, 2, 2, 0, 4, 3, 1, 3, 6, 0, 7, 5];
 
 fn parts(rule: usize, used: usize, label: usize) -> Parts {
     Parts {
@@ -486,32 +566,34 @@ fn unlabel() {
         assert_eq!(table, before);
         parts
     };
-    // Δ(Kt) is node 9, Kt node 8 and t node 1; Δ(Δf)(KK) is node 7, Δf node 6 and f node 2; KK is node 5.
-    assert_eq!(call(&LABELLED, 22, 11, 10), parts(2, 11, 1));
-    assert_eq!(call(&LABELLED, 23, 11, 10), parts(2, 11, 1));
-    assert_eq!(call(&LABELLED, 131_072, 11, 10), parts(2, 11, 1));
-    for node in 0..10 {
-        let refused = refused_parts(NOT_LABELLED, 11);
-        assert_eq!(call(&LABELLED, 22, 11, node), refused, "{node}");
+    // Δ(Kt) is node 6, Kt node 5 and t node 2; Δ(Δf)(KK) is node 4, Δf node 3 and f node 1; KK is node 2.
+    assert_eq!(call(&LABELLED, 16, 8, 7), parts(1, 8, 2));
+    assert_eq!(call(&LABELLED, 17, 8, 7), parts(1, 8, 2));
+    assert_eq!(call(&LABELLED, 131_072, 8, 7), parts(1, 8, 2));
+    for node in 0..7 {
+        let refused = refused_parts(NOT_LABELLED, 8);
+        assert_eq!(call(&LABELLED, 16, 8, node), refused, "{node}");
     }
-    assert_eq!(call(&LABELLED, 131_073, 11, 10), refused_parts(LIMITS, 11));
-    assert_eq!(call(&LABELLED, 23, 12, 10), refused_parts(LIMITS, 12));
-    assert_eq!(call(&LABELLED, 21, 11, 10), refused_parts(LIMITS, 11));
+    assert_eq!(call(&LABELLED, 131_073, 8, 7), refused_parts(LIMITS, 8));
+    assert_eq!(call(&LABELLED, 17, 9, 7), refused_parts(LIMITS, 9));
+    assert_eq!(call(&LABELLED, 15, 8, 7), refused_parts(LIMITS, 8));
     let most = usize::MAX;
-    assert_eq!(call(&LABELLED, 22, most, 10), refused_parts(LIMITS, most));
+    assert_eq!(call(&LABELLED, 16, most, 7), refused_parts(LIMITS, most));
     assert_eq!(call(&[], 0, 1, 0), refused_parts(LIMITS, 1));
-    assert_eq!(call(&LABELLED, 24, 12, 10), refused_parts(BROKEN, 12));
-    assert_eq!(call(&LABELLED, 24, 12, 12), refused_parts(BROKEN, 12));
-    assert_eq!(call(&LABELLED, 22, 11, 11), refused_parts(NODE, 11));
-    assert_eq!(call(&LABELLED, 22, 10, 10), refused_parts(NODE, 10));
-    assert_eq!(call(&LABELLED, 22, 11, most), refused_parts(NODE, 11));
+    assert_eq!(call(&LABELLED, 18, 9, 7), refused_parts(BROKEN, 9));
+    assert_eq!(call(&LABELLED, 18, 9, 9), refused_parts(BROKEN, 9));
+    assert_eq!(call(&LABELLED, 16, 8, 8), refused_parts(NODE, 8));
+    assert_eq!(call(&LABELLED, 16, 7, 7), refused_parts(NODE, 7));
+    assert_eq!(call(&LABELLED, 16, 8, most), refused_parts(NODE, 8));
     assert_eq!(call(&[], 0, 0, 0), refused_parts(NODE, 0));
-    // A broken node that the tree does not reach.
-    let mut broken = [&LABELLED[..], &[0, 1]].concat();
-    assert_eq!(call(&broken, 24, 12, 10), refused_parts(BROKEN, 12));
-    assert_eq!(call(&broken, 24, 11, 10), parts(2, 11, 1));
-    broken[22] = 1;
-    assert_eq!(call(&broken, 24, 12, 10), parts(2, 12, 1));
+    // A node that the tree does not reach: broken, equal to another, and neither.
+    let with = |words: [u32; 2]| [&LABELLED[..], &words].concat();
+    for words in [[0, 1], [0, 0], [1, 2], [7, 5]] {
+        let refused = refused_parts(BROKEN, 9);
+        assert_eq!(call(&with(words), 18, 9, 7), refused, "{words:?}");
+        assert_eq!(call(&with(words), 18, 8, 7), parts(1, 8, 2));
+    }
+    assert_eq!(call(&with([1, 1]), 18, 9, 7), parts(1, 9, 2));
 }
 
 /// `unlabel` of the last node of a table.
@@ -520,38 +602,30 @@ fn unlabel_last(words: &[u32]) -> Parts {
 }
 
 /// Other words for a node of the form: of another kind, or with another branch.
-const OTHER_WORDS: [(usize, [u32; 2]); 28] = [
-    (10, [10, 0]),
-    (10, [9, 8]),
-    (10, [10, 10]),
-    (10, [10, 7]),
-    (9, [0, 0]),
-    (9, [9, 9]),
-    // Δt for Δ(Kt).
-    (9, [2, 0]),
-    (8, [0, 0]),
-    (8, [4, 0]),
-    // K and KK for the leaf of Kt.
-    (8, [5, 2]),
-    (8, [6, 2]),
-    (7, [0, 0]),
+const OTHER_WORDS: [(usize, [u32; 2]); 20] = [
     (7, [7, 0]),
-    (7, [6, 6]),
-    (7, [7, 5]),
-    (6, [0, 0]),
-    (6, [3, 3]),
-    // Kf for Δf.
-    (6, [4, 3]),
-    (5, [0, 0]),
+    (7, [6, 5]),
+    (7, [7, 7]),
+    (7, [7, 4]),
+    (6, [6, 6]),
+    // Δ(ΔK) for Δ(Kt).
+    (6, [4, 0]),
+    (5, [4, 0]),
     (5, [5, 0]),
-    (5, [4, 4]),
-    (5, [5, 4]),
-    (5, [5, 5]),
-    (4, [0, 0]),
-    (4, [4, 4]),
-    (4, [2, 0]),
-    (3, [1, 0]),
+    // K and KK for the leaf of Kt.
+    (5, [2, 3]),
+    (5, [3, 3]),
+    (4, [4, 0]),
+    (4, [3, 3]),
+    (4, [4, 2]),
     (3, [1, 1]),
+    (3, [2, 2]),
+    (3, [2, 3]),
+    // KΔ, and K for the leaf, for KK.
+    (2, [1, 1]),
+    (2, [2, 2]),
+    (2, [2, 1]),
+    (1, [1, 1]),
 ];
 
 #[test]
@@ -559,7 +633,7 @@ fn unlabel_by_the_form() {
     for (node, words) in OTHER_WORDS {
         let mut table = LABELLED;
         table[2 * node..2 * node + 2].copy_from_slice(&words);
-        let refused = refused_parts(NOT_LABELLED, 11);
+        let refused = refused_parts(NOT_LABELLED, 8);
         assert_eq!(unlabel_last(&table), refused, "{node} {words:?}");
     }
 }
@@ -568,15 +642,20 @@ fn unlabel_by_the_form() {
 /// then x is the label.
 #[test]
 fn unlabel_of_trees_labelled_earlier() {
-    let of_rule = [0, 0, 1, 0, 1, 2, 0, 0, 4, 0, 4, 5, 3, 0, 7, 6];
-    let earlier = |label| [&of_rule[..], &[label, 0, 9, 8]].concat();
-    // A leaf and a stem; KK, node 2, is K of node 1, and node 5 of node 4.
-    for label in [1, 2] {
-        let refused = refused_parts(NOT_LABELLED, 10);
+    // Node 4 is Δ(Δf)(KK) for f = K. The stem of a leaf is K, and that of K is Δf.
+    let of_rule = [0, 0, 1, 0, 1, 2, 2, 0, 4, 3];
+    for stem in [2, 4] {
+        let earlier = [&of_rule[..], &[stem, 5]].concat();
+        let refused = refused_parts(NOT_LABELLED, 6);
+        assert_eq!(unlabel_last(&earlier), refused, "{stem}");
+    }
+    // KK, node 2, is K of node 1; ΔK and Δ(ΔK)(KK) are K of nothing.
+    let earlier = |label| [&of_rule[..], &[label, 0, 6, 5]].concat();
+    assert_eq!(unlabel_last(&earlier(3)), parts(1, 7, 1));
+    for label in [4, 5] {
+        let refused = refused_parts(NOT_LABELLED, 7);
         assert_eq!(unlabel_last(&earlier(label)), refused, "{label}");
     }
-    assert_eq!(unlabel_last(&earlier(3)), parts(2, 10, 1));
-    assert_eq!(unlabel_last(&earlier(6)), parts(2, 10, 4));
 }
 
 #[test]
@@ -588,63 +667,64 @@ fn unlabel_where_nodes_are_shared() {
     assert_eq!(unlabel_last(&of_kk), parts(2, 8, 2));
     let both_stems = [0, 0, 1, 0, 1, 2, 3, 0, 4, 3, 4, 5];
     assert_eq!(unlabel_last(&both_stems), parts(2, 6, 1));
-    // KK of two leaves, whose nodes are f and t too, made before Δf; then Δ(Kt) made first.
+    // Δ(Kt) made first, f and t the leaf; then with a second leaf, of which KK is made.
+    let label_first = [0, 0, 1, 1, 2, 0, 1, 0, 1, 4, 4, 5, 3, 6];
+    assert_eq!(unlabel_last(&label_first), parts(0, 7, 0));
     let two_leaves = [0, 0, 0, 0, 2, 0, 1, 3, 1, 0, 5, 4, 2, 2, 7, 0, 8, 6];
-    assert_eq!(unlabel_last(&two_leaves), parts(0, 9, 1));
-    let label_first = [0, 0, 1, 1, 2, 0, 0, 0, 4, 0, 1, 5, 4, 0, 7, 6, 3, 8];
-    assert_eq!(unlabel_last(&label_first), parts(3, 9, 0));
+    assert_eq!(unlabel_last(&two_leaves), refused_parts(BROKEN, 9));
 }
 
 /// What Label makes, and what Read makes of the text of a labelled tree, is taken apart again.
 #[test]
 fn unlabel_after_label_and_after_read() {
+    // Of the leaf with KK four are new.
     let mut table = table(22);
     let labelled = lazvorn::label(&mut table, 3, 0, 2);
     let unlabelled = lazvorn::unlabel(&table, labelled.used, labelled.node);
-    assert_eq!(unlabelled, parts(0, 11, 2));
-    // Read lays digit p of 15 at node 14 - p: the rule begins at 8 and the label at 4.
-    let (mut table, mut stack) = ([NOISE; 30], [NOISE; 9]);
+    assert_eq!(unlabelled, parts(0, 7, 2));
+    // Read makes the leaf, K, KK, which is Kt too, the rule, Δf, Δ(Δf)(KK), Δ(Kt) and the whole.
+    let (mut table, mut stack) = ([NOISE; 16], [NOISE; 9]);
     let read = lazvorn::read(&mut table, 0, &mut stack, b"212010212002010");
-    assert_eq!((read.refusal, read.node), (0, 14));
-    assert_eq!(lazvorn::unlabel(&table, 15, 14), parts(6, 15, 10));
+    assert_eq!((read.refusal, read.node), (0, 7));
+    assert_eq!(lazvorn::unlabel(&table, 8, 7), parts(3, 8, 1));
 }
 
-/// λx. x x never ends on itself. As the label of KΔ it costs six steps, a node and two frames, and KΔ
-/// drops the argument in one step.
+/// λx. x x never ends on itself. As the label of λx. x it costs six steps and two frames, and λx. x gives
+/// the argument in four steps and with one frame. Of KN, ΔN and KN again, where N is argument and label,
+/// only ΔN is not there.
 #[test]
 fn apply_of_a_labelled_rule() {
-    let (mut table, mut stack) = ([NOISE; 48], [NOISE; 9]);
-    let rule = lazvorn::read(&mut table, 0, &mut stack, b"200");
+    let (mut table, mut stack) = ([NOISE; 22], [NOISE; 9]);
+    let rule = lazvorn::read(&mut table, 0, &mut stack, b"21010");
     let tree = lazvorn::read(&mut table, 3, &mut stack, b"212101021010");
-    let labelled = lazvorn::label(&mut table, 15, rule.node, tree.node);
-    assert_eq!(
-        (labelled.refusal, labelled.node, labelled.used),
-        (0, 22, 23)
-    );
+    let labelled = lazvorn::label(&mut table, 5, rule.node, tree.node);
+    assert_eq!((labelled.refusal, labelled.node, labelled.used), (0, 9, 10));
     let call = |words, stack, limit| {
         let (mut table, mut stack) = (table, vec![NOISE; stack]);
-        lazvorn::apply(&mut table[..words], 23, &mut stack, 22, tree.node, limit)
+        lazvorn::apply(&mut table[..words], 10, &mut stack, 9, tree.node, limit)
     };
-    // The outcome is KΔ's second branch, node 0.
     let numbers = Counted {
-        used: 24,
-        steps: 7,
+        node: 4,
+        used: 11,
+        steps: 10,
         uses: Uses {
-            stem: 1,
+            leaf: 1,
+            stem: 2,
             drop: 4,
-            spread: 2,
+            spread: 3,
             ..Uses::default()
         },
         ..Counted::default()
     };
-    assert_eq!(call(48, 6, 7), numbers);
-    assert_eq!(call(48, 6, 1_000_000), numbers);
-    assert_eq!(call(48, 6, 6), refused_uses(STEPS, 23));
-    assert_eq!(call(47, 6, 7), refused_uses(NODES, 23));
-    assert_eq!(call(48, 5, 7), refused_uses(FRAMES, 23));
+    assert_eq!(call(22, 9, 10), numbers);
+    assert_eq!(call(22, 9, 1_000_000), numbers);
+    assert_eq!(call(22, 9, 9), refused_uses(STEPS, 10));
+    assert_eq!(call(21, 9, 10), refused_uses(NODES, 10));
+    assert_eq!(call(22, 8, 10), refused_uses(FRAMES, 10));
 }
 
-/// Five counts that all differ, summed over the arguments. I is λx. x, 21010.
+/// Five counts that all differ, summed over the arguments. I is λx. x, 21010. Nine trees are made: 0, 10
+/// and I of the rule; ΔIΔ of an argument; then 200, Δ(ΔIΔ), Δ(ΔIΔ)Δ, KI and ΔI.
 #[test]
 fn uses_over_arguments() {
     let arguments: [(&[u8], [usize; 5]); 8] = [
@@ -671,12 +751,12 @@ fn uses_over_arguments() {
     }
     assert_eq!(counts, [6, 5, 4, 3, 1]);
     let [leaf, stem, drop, spread, triage] = counts;
-    let mut lent = Lent::new(68, 99, 2);
+    let mut lent = Lent::new(18, 99, 2);
     let (t, s, o) = lent.parts();
     let ran = lazvorn::run(t, s, o, &packet);
     lent.nothing_beyond();
     let expected = Counted {
-        used: 5 + 18 + leaf + stem,
+        used: 9,
         steps: 19,
         digits: 2,
         uses: Uses {
@@ -690,6 +770,84 @@ fn uses_over_arguments() {
     };
     assert_eq!(ran, expected);
     assert_eq!(lent.out[..2], *b"10");
+}
+
+/// The words of a call lie before noise, which a length that is lost would reach.
+#[test]
+fn same() {
+    let call = |words: &[u32], length: usize, used, a, b| {
+        let mut table = vec![NOISE; length.max(words.len()) + BEYOND];
+        table[..words.len()].copy_from_slice(words);
+        let before = table.clone();
+        let same = lazvorn::same(&table[..length], used, a, b);
+        assert_eq!(table, before);
+        same
+    };
+    let answer = |equal| Same { refusal: 0, equal };
+    let refused = |refusal| Same { refusal, equal: 0 };
+    for a in 0..8 {
+        for b in 0..8 {
+            let equal = answer(usize::from(a == b));
+            assert_eq!(call(&LABELLED, 16, 8, a, b), equal, "{a} {b}");
+            assert_eq!(call(&LABELLED, 131_072, 8, a, b), equal, "{a} {b}");
+        }
+    }
+    assert_eq!(call(&LABELLED, 131_073, 8, 7, 7), refused(LIMITS));
+    assert_eq!(call(&LABELLED, 17, 9, 7, 7), refused(LIMITS));
+    assert_eq!(call(&LABELLED, 15, 8, 7, 7), refused(LIMITS));
+    assert_eq!(call(&LABELLED, 16, usize::MAX, 7, 7), refused(LIMITS));
+    assert_eq!(call(&[], 0, 1, 0, 0), refused(LIMITS));
+    assert_eq!(call(&LABELLED, 18, 9, 7, 7), refused(BROKEN));
+    assert_eq!(call(&LABELLED, 18, 9, 9, 9), refused(BROKEN));
+    for [a, b] in [[8, 7], [7, 8], [8, 8], [usize::MAX, 7], [7, usize::MAX]] {
+        assert_eq!(call(&LABELLED, 16, 8, a, b), refused(NODE), "{a} {b}");
+    }
+    assert_eq!(call(&LABELLED, 16, 7, 7, 6), refused(NODE));
+    assert_eq!(call(&LABELLED, 16, 7, 6, 6), answer(1));
+    assert_eq!(call(&[], 0, 0, 0, 0), refused(NODE));
+    assert_eq!(call(&[NOISE], 1, 0, 0, 0), refused(NODE));
+}
+
+/// An operation on a table with so many nodes in use; its refusal.
+type OnTable = fn(&mut Lent, usize) -> usize;
+
+const ON_TABLES: [OnTable; 7] = [
+    |lent, used| {
+        let (t, s, _) = lent.parts();
+        lazvorn::read(t, used, s, b"0").refusal
+    },
+    |lent, used| {
+        let (t, s, o) = lent.parts();
+        lazvorn::write(t, used, s, 0, o).refusal
+    },
+    |lent, used| {
+        let (t, s, _) = lent.parts();
+        lazvorn::translate(t, used, s, &[2, 0]).refusal
+    },
+    |lent, used| {
+        let (t, s, _) = lent.parts();
+        lazvorn::apply(t, used, s, 0, 0, 9).refusal
+    },
+    |lent, used| lazvorn::label(lent.parts().0, used, 0, 0).refusal,
+    |lent, used| lazvorn::unlabel(lent.parts().0, used, 0).refusal,
+    |lent, used| lazvorn::same(lent.parts().0, used, 0, 0).refusal,
+];
+
+/// Two equal used nodes are 2 to every operation on a table, and all memory stays as found. Where the
+/// second of them is past the used nodes there are no two.
+#[test]
+fn equal_used_nodes() {
+    let equal = [[0, 0, 1, 0, 0, 0], [0, 0, 1, 0, 1, 0], [0, 0, 1, 1, 1, 1]];
+    for words in equal {
+        for (i, operation) in ON_TABLES.iter().enumerate() {
+            let mut found = Lent::new(22, 20, 4);
+            found.table[..6].copy_from_slice(&words);
+            let mut lent = found.clone();
+            assert_eq!(operation(&mut lent, 3), BROKEN, "{i} {words:?}");
+            assert_eq!(lent, found, "{i} {words:?}");
+            assert_ne!(operation(&mut lent, 2), BROKEN, "{i} {words:?}");
+        }
+    }
 }
 
 /// Calls `rule_text` with so many out bytes; what it answers, and the out bytes with those beyond.
@@ -776,4 +934,41 @@ fn rule_text_on_a_stack_of_1_mib() {
     };
     let thread = std::thread::Builder::new().stack_size(1 << 20);
     assert!(thread.spawn(texts).expect("a thread").join().is_ok());
+}
+
+/// Every call with a table of so many words, on a packet with this rule. Each refusal but that of `unlabel`
+/// is `refusal`, where nodes are to be made for the rule, else 0.
+fn each_call(words: usize, rule: &[u8], refusal: usize) {
+    let packet = [&[1, (rule.len() >> 8) as u8, rule.len() as u8], rule, &[4, 0, 1, b'0']].concat();
+    let (mut stack, mut out) = (vec![NOISE; 65_536], vec![BYTE; 65_535]);
+    let mut lent = table(words);
+    assert_eq!(lazvorn::translate(&mut lent, 3, &mut stack, rule).refusal, refusal);
+    let mut lent = table(words);
+    assert_eq!(lazvorn::read(&mut lent, 3, &mut stack, b"200").refusal, 0);
+    assert_eq!(lazvorn::write(&lent, 3, &mut stack, 2, &mut out).refusal, 0);
+    assert_eq!(lazvorn::apply(&mut lent, 3, &mut stack, 2, 1, 9).refusal, 0);
+    assert_eq!(lazvorn::label(&mut lent, 3, 2, 1).refusal, 0);
+    assert_eq!(lazvorn::unlabel(&lent, 3, 2).refusal, NOT_LABELLED);
+    assert_eq!(lazvorn::same(&lent, 3, 2, 1).refusal, 0);
+    assert_eq!(lazvorn::run(&mut lent, &mut stack, &mut out, &packet).refusal, refusal);
+    assert_eq!(lazvorn::label_packet(&mut lent, &mut stack, &mut out, &packet).refusal, refusal);
+}
+
+/// The stack that include/lazvorn.h names for each length of table, and what a thread itself needs.
+#[test]
+fn calls_on_the_stack_that_the_header_names() {
+    const OWN: usize = 32 << 10;
+    // One abstraction over applications that nest to the right, as many as 4,096 bytes have room for.
+    let deep = [&[2][..], &[1, 0].repeat(2_047), &[0]].concat();
+    for (words, kib) in [(128, 20), (2_048, 20), (16_384, 120), (131_072, 800)] {
+        let rule = deep.clone();
+        let deepest = if words < 16_384 { NODES } else { 0 };
+        for (more, call) in [
+            (0, Box::new(move || each_call(words, &[2, 3, 0], 0)) as Box<dyn FnOnce() + Send>),
+            (1 << 20, Box::new(move || each_call(words, &rule, deepest))),
+        ] {
+            let thread = std::thread::Builder::new().stack_size((kib << 10) + more + OWN);
+            assert!(thread.spawn(call).expect("a thread").join().is_ok());
+        }
+    }
 }

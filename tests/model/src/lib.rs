@@ -5,6 +5,7 @@
 //!
 //! Whoever calls it gives the thread a large stack: recursion goes as deep as trees and frames do.
 
+use std::collections::{HashMap, HashSet};
 use std::rc::Rc;
 
 pub mod rule_text;
@@ -26,6 +27,9 @@ pub type Counted = [usize; 10];
 /// Of a labelled tree ([1]): refusal, the rule's node, used, 0, 0, the label's node.
 pub type Parts = [usize; 6];
 
+/// Of two nodes ([8]): refusal, 1 if their trees are equal.
+pub type Same = [usize; 2];
+
 /// How often each rule was used.
 type Uses = [usize; 5];
 
@@ -37,10 +41,6 @@ fn counted(answer: Answer, uses: Uses) -> Counted {
 type Refusal = usize;
 
 impl Memory {
-    fn capacity(&self) -> usize {
-        self.table.len() / 2
-    }
-
     fn frames(&self) -> usize {
         self.stack.len() / 3
     }
@@ -58,26 +58,55 @@ impl Memory {
         self.table[2 * used..2 * end].fill(0);
         self.stack.fill(0);
     }
-
-    fn put(&mut self, node: usize, first: usize, second: usize) {
-        self.table[2 * node] = first as u32;
-        self.table[2 * node + 1] = second as u32;
-    }
 }
 
-/// The same checks where no stack is lent.
+/// The same checks where no stack is lent. "Refusal 2 now also covers two equal used nodes." ([8])
 fn check_table(table: &[u32], used: usize) -> Result<(), Refusal> {
     if table.len() > 131_072 || used > table.len() / 2 {
         return Err(1);
     }
-    let broken = (0..used).any(|i| {
+    let mut nodes = HashSet::with_capacity(used);
+    for i in 0..used {
         let (a, b) = (table[2 * i], table[2 * i + 1]);
-        (a == 0 && b != 0) || a as usize > i || b as usize > i
-    });
-    if broken {
-        Err(2)
-    } else {
-        Ok(())
+        let broken = (a == 0 && b != 0) || a as usize > i || b as usize > i;
+        if broken || !nodes.insert((a, b)) {
+            return Err(2);
+        }
+    }
+    Ok(())
+}
+
+/// A table in which each tree is made once ([8]).
+struct Nodes<'a> {
+    table: &'a mut [u32],
+    used: usize,
+    /// The used nodes by their words.
+    of: HashMap<(usize, usize), usize>,
+}
+
+impl<'a> Nodes<'a> {
+    /// A table that passed the checks.
+    fn new(table: &'a mut [u32], used: usize) -> Self {
+        let words = |i: usize| (table[2 * i] as usize, table[2 * i + 1] as usize);
+        let of = (0..used).map(|i| (words(i), i)).collect();
+        Nodes { table, used, of }
+    }
+
+    /// "When a node about to be made has both words equal to those of a used node, that node's number is
+    /// taken instead." Else it is the next node, or 8 where the table is full.
+    fn make(&mut self, first: usize, second: usize) -> Result<usize, Refusal> {
+        if let Some(node) = self.of.get(&(first, second)) {
+            return Ok(*node);
+        }
+        let node = self.used;
+        if node == self.table.len() / 2 {
+            return Err(8);
+        }
+        self.table[2 * node] = first as u32;
+        self.table[2 * node + 1] = second as u32;
+        self.of.insert((first, second), node);
+        self.used += 1;
+        Ok(node)
     }
 }
 
@@ -183,27 +212,43 @@ fn pending(tree: &Tree, before: usize) -> usize {
     }
 }
 
-/// Lays a tree whose text has its digit 0 at `place`: the digit at p stands at node `last` - p.
-/// Gives the place after the tree.
-fn lay(memory: &mut Memory, tree: &Tree, last: usize, place: usize) -> usize {
-    let word = |p: usize| last - p + 1;
-    let (first, second, end) = match &tree.shape {
-        Shape::Leaf => (0, 0, place + 1),
-        Shape::Stem(p) => (word(place + 1), 0, lay(memory, p, last, place + 1)),
-        Shape::Fork(p, q) => {
-            let middle = lay(memory, p, last, place + 1);
-            (word(place + 1), word(middle), lay(memory, q, last, middle))
+/// Lays a tree, its digits last to first: the second branch, the first, then the node itself.
+fn lay(nodes: &mut Nodes, tree: &Tree) -> Result<usize, Refusal> {
+    match &tree.shape {
+        Shape::Leaf => nodes.make(0, 0),
+        Shape::Stem(p) => {
+            let first = lay(nodes, p)? + 1;
+            nodes.make(first, 0)
         }
-    };
-    memory.put(last - place, first, second);
-    end
+        Shape::Fork(p, q) => {
+            let second = lay(nodes, q)? + 1;
+            let first = lay(nodes, p)? + 1;
+            nodes.make(first, second)
+        }
+    }
 }
 
-/// Lays a tree of n nodes as Read does.
-fn laid(memory: &mut Memory, used: usize, tree: &Tree, n: usize) -> Answer {
+/// Makes nodes: the answer is the node that `make` gives, and on 8 the words of those made are 0.
+fn made(
+    table: &mut [u32],
+    used: usize,
+    make: impl FnOnce(&mut Nodes) -> Result<usize, Refusal>,
+) -> Answer {
+    let mut nodes = Nodes::new(table, used);
+    match make(&mut nodes) {
+        Ok(node) => [0, node, nodes.used, 0, 0],
+        Err(number) => {
+            let end = nodes.used;
+            table[2 * used..2 * end].fill(0);
+            refused(number, used)
+        }
+    }
+}
+
+/// Lays a tree as Read does, where the frames suffice.
+fn laid(memory: &mut Memory, used: usize, tree: &Tree) -> Answer {
     memory.stack.fill(0);
-    lay(memory, tree, used + n - 1, 0);
-    [0, used + n - 1, used + n, 0, 0]
+    made(&mut memory.table, used, |nodes| lay(nodes, tree))
 }
 
 pub fn read(memory: &mut Memory, used: usize, text: &[u8]) -> Answer {
@@ -213,15 +258,11 @@ pub fn read(memory: &mut Memory, used: usize, text: &[u8]) -> Answer {
     let Some(tree) = readable(text) else {
         return refused(4, used);
     };
-    let number = if text.len() > memory.capacity() - used {
-        8
-    } else if memory.frames() < pending(&tree, 0) {
-        9
-    } else {
-        return laid(memory, used, &tree, text.len());
-    };
-    memory.stack.fill(0);
-    refused(number, used)
+    if memory.frames() < pending(&tree, 0) {
+        memory.stack.fill(0);
+        return refused(9, used);
+    }
+    laid(memory, used, &tree)
 }
 
 /// A tree's digits into `text`, while `held` forks wait for their second branch.
@@ -427,55 +468,48 @@ pub fn translate(memory: &mut Memory, used: usize, bytes: &[u8]) -> Answer {
     let Some(rule) = rule(bytes) else {
         return refused(5, used);
     };
+    // "Translate's frames go by the tree's size unshared" ([8])
     let (n, _) = size(&rule);
-    let number = if n > (memory.capacity() - used) as u128 {
-        8
-    } else if (memory.frames() as u128) < 2 * n {
-        9
-    } else {
-        return laid(memory, used, &tree_of(&translated(&rule)), n as usize);
-    };
-    memory.stack.fill(0);
-    refused(number, used)
+    if (memory.frames() as u128) < 2 * n {
+        memory.stack.fill(0);
+        return refused(9, used);
+    }
+    laid(memory, used, &tree_of(&translated(&rule)))
 }
 
 // ---- application
 
-/// A use of a rule: its place in document 01's order, and whether it needs a new node or a frame.
+/// A use of a rule: its place in document 01's order, and whether it needs a frame.
 struct Use {
     place: usize,
-    node: bool,
     frame: bool,
 }
 
-const fn rule_use(place: usize, node: bool, frame: bool) -> Use {
-    Use { place, node, frame }
+const fn rule_use(place: usize, frame: bool) -> Use {
+    Use { place, frame }
 }
 
-const LEAF: Use = rule_use(0, true, false);
-const STEM: Use = rule_use(1, true, false);
-const DROP: Use = rule_use(2, false, false);
-const SPREAD: Use = rule_use(3, false, true);
-const TRIAGE: Use = rule_use(4, false, true);
+const LEAF: Use = rule_use(0, false);
+const STEM: Use = rule_use(1, false);
+const DROP: Use = rule_use(2, false);
+const SPREAD: Use = rule_use(3, true);
+const TRIAGE: Use = rule_use(4, true);
 
-/// What an application is counted against, and the words of the nodes it has made.
-struct Machine {
-    capacity: usize,
+/// What an application is counted against, and the trees of the used nodes.
+struct Machine<'a> {
+    nodes: Nodes<'a>,
+    trees: Vec<Rc<Tree>>,
     frames: usize,
     limit: usize,
-    used: usize,
     uses: Uses,
-    made: Vec<(usize, usize)>,
 }
 
-impl Machine {
-    /// One use of a rule: 7, then 8 if it needs a node, then 9 if it needs a frame beside `held`.
+impl Machine<'_> {
+    /// One use of a rule: 7, then 9 if it needs a frame beside `held`. A rule that needs a node needs no
+    /// frame, and `make` gives its 8.
     fn step(&mut self, wanted: Use, held: usize) -> Result<(), Refusal> {
         if self.steps() == self.limit {
             return Err(7);
-        }
-        if wanted.node && self.used + self.made.len() == self.capacity {
-            return Err(8);
         }
         if wanted.frame && held == self.frames {
             return Err(9);
@@ -488,14 +522,18 @@ impl Machine {
         self.uses.iter().sum()
     }
 
-    fn make(&mut self, shape: Shape) -> Rc<Tree> {
-        let node = self.used + self.made.len();
-        self.made.push(match &shape {
+    /// The tree of this shape, with its node.
+    fn make(&mut self, shape: Shape) -> Result<Rc<Tree>, Refusal> {
+        let (first, second) = match &shape {
             Shape::Leaf => (0, 0),
             Shape::Stem(p) => (p.node + 1, 0),
             Shape::Fork(p, q) => (p.node + 1, q.node + 1),
-        });
-        tree(node, shape)
+        };
+        let node = self.nodes.make(first, second)?;
+        if node == self.trees.len() {
+            self.trees.push(tree(node, shape));
+        }
+        Ok(self.trees[node].clone())
     }
 
     /// f applied to n while `held` frames are held. The last application of spread and of triage
@@ -506,11 +544,11 @@ impl Machine {
             let (next, argument) = match &f.shape {
                 Shape::Leaf => {
                     self.step(LEAF, held)?;
-                    return Ok(self.make(Shape::Stem(n)));
+                    return self.make(Shape::Stem(n));
                 }
                 Shape::Stem(p) => {
                     self.step(STEM, held)?;
-                    return Ok(self.make(Shape::Fork(p.clone(), n)));
+                    return self.make(Shape::Fork(p.clone(), n));
                 }
                 Shape::Fork(first, y) => match &first.shape {
                     Shape::Leaf => {
@@ -550,26 +588,25 @@ pub fn apply(
     if function >= used || argument >= used {
         return refused_uses(3, used);
     }
+    let frames = memory.frames();
+    let trees = trees(&memory.table, used);
+    let (function, argument) = (trees[function].clone(), trees[argument].clone());
     let mut machine = Machine {
-        capacity: memory.capacity(),
-        frames: memory.frames(),
+        nodes: Nodes::new(&mut memory.table, used),
+        trees,
+        frames,
         limit,
-        used,
         uses: [0; 5],
-        made: Vec::new(),
     };
-    let nodes = trees(&memory.table, used);
-    let result = machine.apply(nodes[function].clone(), nodes[argument].clone(), 0);
-    let end = used + machine.made.len();
-    memory.undo(used, end);
+    let result = machine.apply(function, argument, 0);
+    let (end, uses) = (machine.nodes.used, machine.uses);
+    memory.stack.fill(0);
     match result {
-        Err(number) => refused_uses(number, used),
-        Ok(tree) => {
-            for (i, &(first, second)) in machine.made.iter().enumerate() {
-                memory.put(used + i, first, second);
-            }
-            counted([0, tree.node, end, machine.steps(), 0], machine.uses)
+        Err(number) => {
+            memory.undo(used, end);
+            refused_uses(number, used)
         }
+        Ok(tree) => counted([0, tree.node, end, uses.iter().sum(), 0], uses),
     }
 }
 
@@ -583,19 +620,22 @@ pub fn label(memory: &mut Memory, used: usize, rule: usize, label: usize) -> Ans
     if rule >= used || label >= used {
         return refused(3, used);
     }
-    if memory.capacity() - used < 8 {
-        return refused(8, used);
-    }
-    memory.put(used, 0, 0);
-    memory.put(used + 1, used + 1, 0);
-    memory.put(used + 2, used + 1, used + 2);
-    memory.put(used + 3, rule + 1, 0);
-    memory.put(used + 4, used + 4, used + 3);
+    made(&mut memory.table, used, |nodes| {
+        labelled(nodes, rule + 1, label + 1)
+    })
+}
+
+/// Makes a labelled tree of the branch words of rule and label.
+fn labelled(nodes: &mut Nodes, rule: usize, label: usize) -> Result<usize, Refusal> {
+    let leaf = nodes.make(0, 0)? + 1;
+    let k = nodes.make(leaf, 0)? + 1;
+    let kk = nodes.make(leaf, k)? + 1;
+    let rule_stem = nodes.make(rule, 0)? + 1;
+    let second = nodes.make(rule_stem, kk)? + 1;
     // "the sixth is the fork of the first and t, then its stem, then the whole" ([4])
-    memory.put(used + 5, used + 1, label + 1);
-    memory.put(used + 6, used + 6, 0);
-    memory.put(used + 7, used + 7, used + 5);
-    [0, used + 7, used + 8, 0, 0]
+    let kt = nodes.make(leaf, label)? + 1;
+    let label_stem = nodes.make(kt, 0)? + 1;
+    nodes.make(label_stem, second)
 }
 
 /// The nodes of f and of t where a tree is Δ(Δ(Kt))(Δ(Δf)(KK)) ([4]). K is ΔΔ, so Kt is the fork of a
@@ -642,6 +682,39 @@ pub fn unlabel(table: &[u32], used: usize, node: usize) -> Parts {
         None => refused(11),
         Some((rule, label)) => [0, rule, used, 0, 0, label],
     }
+}
+
+// ---- equal trees
+
+/// Whether two nodes, each of a table of its own, have the same tree. No pair of nodes is looked at
+/// twice, however often branches are shared.
+pub fn same_tree(a: (&[u32], usize), b: (&[u32], usize)) -> bool {
+    let (mut pairs, mut seen) = (vec![(a.1, b.1)], HashSet::new());
+    while let Some((x, y)) = pairs.pop() {
+        if !seen.insert((x, y)) {
+            continue;
+        }
+        for i in 0..2 {
+            match (a.0[2 * x + i] as usize, b.0[2 * y + i] as usize) {
+                (0, 0) => {}
+                (0, _) | (_, 0) => return false,
+                (p, q) => pairs.push((p - 1, q - 1)),
+            }
+        }
+    }
+    true
+}
+
+/// "Two node numbers are equal exactly when their trees are, and a new operation answers that after 1, 2
+/// and 3." ([8]) The trees are compared, not the numbers. The table is only read.
+pub fn same(table: &[u32], used: usize, a: usize, b: usize) -> Same {
+    if let Err(number) = check_table(table, used) {
+        return [number, 0];
+    }
+    if a >= used || b >= used {
+        return [3, 0];
+    }
+    [0, usize::from(same_tree((table, a), (table, b)))]
 }
 
 // ---- packets

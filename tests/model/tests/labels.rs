@@ -1,6 +1,7 @@
 //! The model's readers of labelled packets and trees against documents 01 and 02. The rule of document
-//! 01's packet, 02 01 03 00 03 00, is 212101021010, twelve nodes; its label here is 10, two nodes; so
-//! the labelled tree Δ(Δ(Kt))(Δ(Δf)(KK)) is 2 1 20 10 2 1 212101021010 2010.
+//! 01's packet, 02 01 03 00 03 00, is 212101021010, five different trees: 0, 10, 21010, 121010 and itself;
+//! its label here is 110, one more; so the labelled tree Δ(Δ(Kt))(Δ(Δf)(KK)) is
+//! 2 1 20 110 2 1 212101021010 2010, with six more: KK, Δf, Δ(Δf)(KK), Kt, Δ(Kt) and itself.
 
 use model::{apply, label, label_packet, label_packet_to, read, run, unlabel, write};
 use model::{Memory, Stage};
@@ -8,8 +9,8 @@ use model::{Memory, Stage};
 const RULE: &[u8] = &[1, 0, 6, 2, 1, 3, 0, 3, 0];
 const ARGUMENT: &[u8] = b"\x02\x00\x010";
 const LIMIT: &[u8] = &[3, 0, 4, 0, 0, 0, 10];
-const LABEL: &[u8] = b"\x04\x00\x0210";
-const TEXT: &[u8] = b"212010212121010210102010";
+const LABEL: &[u8] = b"\x04\x00\x03110";
+const TEXT: &[u8] = b"2120110212121010210102010";
 
 /// Memory that no operation has written to.
 fn memory(nodes: usize, frames: usize, out: usize) -> Memory {
@@ -32,11 +33,11 @@ fn undone(found: &Memory, nodes: usize) -> Memory {
 #[test]
 fn a_label_passed_over() {
     let runs = |parts: &[&[u8]]| {
-        let mut memory = memory(18, 24, 3);
+        let mut memory = memory(6, 24, 3);
         (run(&mut memory, &parts.concat()), memory)
     };
     let without = runs(&[RULE, ARGUMENT]);
-    assert_eq!(without.0, [0, 0, 18, 10, 2, 3, 2, 2, 3, 0]);
+    assert_eq!(without.0, [0, 0, 6, 10, 2, 3, 2, 2, 3, 0]);
     assert_eq!(without.1.out[..], [b'1', b'0', 77]);
     assert_eq!(runs(&[RULE, ARGUMENT, LABEL]), without);
     assert_eq!(runs(&[RULE, ARGUMENT, LIMIT, LABEL]), without);
@@ -92,10 +93,11 @@ fn the_longest_packet() {
         let text = [vec![b'1'; digits - 1], vec![b'0']].concat();
         [&[1, 0, 2, 2, 0], &head[..], &text, LABEL].concat()
     };
-    let [longest, longer] = [packet(16_371), packet(16_372)];
+    let [longest, longer] = [packet(16_370), packet(16_371)];
     assert_eq!(longest.len(), 16_384);
+    // 0 and 200 of the rule, 10 and 110 of the label, and Label's six.
     let on_a_large_stack = move || {
-        let refusal = |packet: &[u8]| label_packet(&mut memory(13, 6, 15), packet)[0];
+        let refusal = |packet: &[u8]| label_packet(&mut memory(10, 6, 16), packet)[0];
         assert_eq!([refusal(&longest), refusal(&longer)], [0, 6]);
     };
     let thread = std::thread::Builder::new().stack_size(1 << 28);
@@ -106,7 +108,7 @@ fn the_longest_packet() {
         .is_ok());
 }
 
-/// 12 nodes and 24 frames by Translate, 2 nodes by Read, 8 by Label, 24 digits by Write.
+/// 5 nodes and 24 frames by Translate, 1 node by Read, 6 by Label, 25 digits by Write.
 #[test]
 fn the_stages_of_label_packet() {
     let packet = [RULE, ARGUMENT, LABEL].concat();
@@ -116,24 +118,26 @@ fn the_stages_of_label_packet() {
         let (answer, stage) = label_packet_to(&mut after, &packet);
         (answer, stage, found, after)
     };
-    let (answer, stage, found, after) = ends(22, 24, 25);
-    assert_eq!((answer, stage), ([0, 0, 22, 0, 24], Stage::Write));
-    assert_eq!(after.out, [TEXT, &found.out[24..]].concat());
+    let (answer, stage, found, after) = ends(12, 24, 26);
+    assert_eq!((answer, stage), ([0, 0, 12, 0, 25], Stage::Write));
+    assert_eq!(after.out, [TEXT, &found.out[25..]].concat());
     assert!(after.stack.iter().all(|word| *word == 0));
-    // Label's eight, after the rule's node 11 and the label's node 13; the last word is no node's.
+    // The rule's five, the last its node; the label's one; Label's six; the last word is no node's.
+    assert_eq!(after.table[..12], [0, 0, 1, 0, 2, 2, 3, 0, 4, 3, 2, 0]);
     assert_eq!(
-        after.table[28..],
-        [0, 0, 15, 0, 15, 16, 12, 0, 18, 17, 15, 14, 20, 0, 21, 19, 77]
+        after.table[12..],
+        [1, 2, 5, 0, 8, 7, 1, 6, 10, 0, 11, 9, 77]
     );
     for ([nodes, frames, out], number, stage, made) in [
-        ([11, 24, 24], 8, Stage::Translate, 0),
-        ([11, 23, 24], 8, Stage::Translate, 0),
-        ([22, 23, 24], 9, Stage::Translate, 0),
-        ([13, 24, 24], 8, Stage::Read, 12),
-        ([21, 24, 24], 8, Stage::Label, 14),
-        ([14, 24, 24], 8, Stage::Label, 14),
-        ([22, 24, 23], 10, Stage::Write, 22),
-        ([22, 24, 0], 10, Stage::Write, 22),
+        ([0, 24, 25], 8, Stage::Translate, 0),
+        ([4, 24, 25], 8, Stage::Translate, 4),
+        ([4, 23, 25], 9, Stage::Translate, 0),
+        ([12, 23, 25], 9, Stage::Translate, 0),
+        ([5, 24, 25], 8, Stage::Read, 5),
+        ([6, 24, 25], 8, Stage::Label, 6),
+        ([11, 24, 25], 8, Stage::Label, 11),
+        ([12, 24, 24], 10, Stage::Write, 12),
+        ([12, 24, 0], 10, Stage::Write, 12),
     ] {
         let (answer, at, found, after) = ends(nodes, frames, out);
         assert_eq!((answer, at), ([number, 0, 0, 0, 0], stage));
@@ -142,17 +146,25 @@ fn the_stages_of_label_packet() {
 }
 
 /// 9 by Read: 29 forks, each in the first branch, leave 30 trees pending, more than the rule's 24 frames.
+/// They are 29 trees that are not there, and Label makes six.
 #[test]
 fn frames_of_the_label() {
     let text = [vec![b'2'; 29], vec![b'0'; 30]].concat();
     let packet = [RULE, &[4, 0, 59], &text].concat();
-    let found = memory(100, 29, 100);
-    let mut after = found.clone();
-    let (answer, stage) = label_packet_to(&mut after, &packet);
-    assert_eq!((answer[0], stage), (9, Stage::Read));
-    assert_eq!(after, undone(&found, 12));
+    for (nodes, frames, number, stage, made) in [
+        (40, 29, 9, Stage::Read, 5),
+        (33, 29, 9, Stage::Read, 5),
+        (33, 30, 8, Stage::Read, 33),
+        (39, 30, 8, Stage::Label, 39),
+    ] {
+        let found = memory(nodes, frames, 100);
+        let mut after = found.clone();
+        let (answer, at) = label_packet_to(&mut after, &packet);
+        assert_eq!((answer[0], at), (number, stage));
+        assert_eq!(after, undone(&found, made));
+    }
     // Write holds one frame for the labelled tree's fork and 29 for the label's.
-    assert_eq!(label_packet(&mut memory(100, 30, 100), &packet)[0], 0);
+    assert_eq!(label_packet(&mut memory(40, 30, 100), &packet)[0], 0);
 }
 
 /// Rule and label come back out of a labelled tree that Read made and one that Label made.
@@ -160,22 +172,30 @@ fn frames_of_the_label() {
 fn unlabelled() {
     let mut memory = memory(60, 30, 60);
     let [_, node, used, ..] = read(&mut memory, 0, TEXT);
-    // Digit p of 24 is node 23 - p: the label begins at 4 and the rule at 8.
+    // Read's nodes: 0, 10 and KK; 21010, 121010 and the rule; Δf and Δ(Δf)(KK); 110, Kt, Δ(Kt) and the
+    // whole.
     let answer = unlabel(&memory.table, used, node);
-    assert_eq!(answer, [0, 15, 24, 0, 0, 19]);
+    assert_eq!(answer, [0, 5, 12, 0, 0, 8]);
     let [_, rule, .., tree] = answer;
-    for (node, text) in [(rule, &b"212101021010"[..]), (tree, b"10")] {
+    for (node, text) in [(rule, &b"212101021010"[..]), (tree, b"110")] {
         let digits = write(&mut memory, used, node)[4];
         assert_eq!(memory.out[..digits], *text);
     }
+    // Of 21010, at node 3, the stem is there, and so is KK: Label makes four.
     let [_, node, used, ..] = label(&mut memory, used, 3, 5);
-    assert_eq!(unlabel(&memory.table, used, node), [0, 3, 32, 0, 0, 5]);
+    assert_eq!(unlabel(&memory.table, used, node), [0, 3, 16, 0, 0, 5]);
     // 1, 2, 3, 11.
     assert_eq!(unlabel(&memory.table, 61, node), [1, 0, 61, 0, 0, 0]);
     assert_eq!(unlabel(&[0; 131_073], 1, 0), [1, 0, 1, 0, 0, 0]);
-    assert_eq!(unlabel(&memory.table, 33, node), [2, 0, 33, 0, 0, 0]);
-    assert_eq!(unlabel(&memory.table, used, used), [3, 0, 32, 0, 0, 0]);
-    assert_eq!(unlabel(&memory.table, used, rule), [11, 0, 32, 0, 0, 0]);
+    assert_eq!(unlabel(&memory.table, 17, node), [2, 0, 17, 0, 0, 0]);
+    assert_eq!(unlabel(&memory.table, used, used), [3, 0, 16, 0, 0, 0]);
+    assert_eq!(unlabel(&memory.table, used, rule), [11, 0, 16, 0, 0, 0]);
+    // Node 16 equal to node 15, and to node 0.
+    memory.table.copy_within(30..32, 32);
+    assert_eq!(unlabel(&memory.table, 17, node), [2, 0, 17, 0, 0, 0]);
+    memory.table.copy_within(0..2, 32);
+    assert_eq!(unlabel(&memory.table, 17, node), [2, 0, 17, 0, 0, 0]);
+    assert_eq!(unlabel(&memory.table, 16, node), [0, 3, 16, 0, 0, 5]);
 }
 
 /// `unlabel` of a text's tree, read into an empty table.
@@ -190,9 +210,9 @@ fn unlabelled_text(text: &str) -> [usize; 6] {
 #[test]
 fn other_forms() {
     let (f, t) = ("200", "10");
-    // Digit p of 15 is node 14 - p: the label begins at 4 and the rule at 8.
+    // 0, 10 and KK, which is Kt too; 200; Δf and Δ(Δf)(KK); Δ(Kt) and the whole.
     let whole = unlabelled_text(&format!("2120{t}21{f}2010"));
-    assert_eq!(whole, [0, 6, 15, 0, 0, 10]);
+    assert_eq!(whole, [0, 3, 8, 0, 0, 1]);
     for text in [
         // The whole: its stem, and its branches the other way round.
         format!("12120{t}21{f}2010"),
@@ -231,9 +251,10 @@ fn labelled_earlier() {
     for t in ["0", "10", "110", "2100", "21010", "212101021010"] {
         assert_eq!(earlier(t)[0], 11, "{t}");
     }
-    // Digit p of 23 is node 22 - p: x begins at 4 and the rule at 7. Of 24 digits the rule begins at 8.
-    assert_eq!(earlier("200"), [0, 15, 23, 0, 0, 18]);
-    assert_eq!(earlier("2010"), [0, 15, 24, 0, 0, 19]);
+    // 0, 10 and KK; 21010, 121010 and the rule; Δf and Δ(Δf)(KK); 200, which is not there, or KK; its
+    // stem and the whole.
+    assert_eq!(earlier("200"), [0, 5, 11, 0, 0, 0]);
+    assert_eq!(earlier("2010"), [0, 5, 10, 0, 0, 1]);
 }
 
 /// A table with the trees of these texts, and their nodes.
@@ -249,22 +270,27 @@ fn planted<const N: usize>(texts: [&str; N]) -> (Memory, [usize; N], usize) {
 }
 
 /// "a labelled rule on an argument gives the rule's tree in exactly six more steps": a stem, three drops
-/// and two spreads, and one new node. The label, λx. x x, never ends on the argument, itself.
+/// and two spreads, and at most one new node, K of the outcome. The label, λx. x x, never ends on the
+/// argument, itself.
 #[test]
 fn six_more_steps() {
-    // KΔ drops the argument, and λx. x gives it by a spread, a stem, a leaf and a drop.
-    for (rule, uses, outcome) in [("200", [0, 0, 1, 0, 0], 0), ("21010", [1, 1, 1, 1, 0], 16)] {
+    // KΔ drops the argument, and K of the outcome is KΔ. λx. x gives the argument by a spread, a stem, a
+    // leaf and a drop: KN and ΔN are new, but labelled with N it has KN, which is K of the outcome too.
+    for (rule, uses, outcome, [new, new_labelled]) in [
+        ("200", [0, 0, 1, 0, 0], 0, [0, 0]),
+        ("21010", [1, 1, 1, 1, 0], 4, [2, 1]),
+    ] {
         let (mut memory, [rule, tree], used) = planted([rule, "212101021010"]);
         let steps: usize = uses.iter().sum();
         let [leaf, stem, drop, spread, triage] = uses;
         let alone = apply(&mut memory.clone(), used, rule, tree, steps);
-        assert_eq!(alone[..5], [0, outcome, used + leaf + stem, steps, 0]);
+        assert_eq!(alone[..5], [0, outcome, used + new, steps, 0]);
         assert_eq!(alone[5..], uses);
         let [_, node, used, ..] = label(&mut memory, used, rule, tree);
         let labelled = apply(&mut memory.clone(), used, node, tree, steps + 6);
         assert_eq!(
             labelled[..5],
-            [0, outcome, used + leaf + stem + 1, steps + 6, 0]
+            [0, outcome, used + new_labelled, steps + 6, 0]
         );
         assert_eq!(
             labelled[5..],

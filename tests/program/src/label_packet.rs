@@ -2,11 +2,11 @@
 //! compares all that it prints with the line that documents 01 and 02 give for the packet. The second
 //! evaluator must give the same. Then labelled trees go to the other program as arguments.
 //!
-//! A rule f of m nodes labelled with a text t of n digits is Δ(Δ(Kt))(Δ(Δf)(KK)): 2 1 20 t 2 1 f 2010. It
-//! uses m + n + 8 nodes and has two digits more. So of 8,192 nodes no text has more than 8,194 digits:
-//! the 16,384 out bytes suffice, and 10 cannot come. Nor can 9 but from Translate: for Read, 4,097 trees
-//! pending take a label of 8,193 digits, and that is 8; Write holds one frame beside those of t's forks,
-//! no more than Read had for the trees pending, or beside those of f's, where Translate had two a node.
+//! A rule f labelled with a text t of n digits is Δ(Δ(Kt))(Δ(Δf)(KK)): 2 1 20 t 2 1 f 2010. Each tree is one
+//! node ([8]): used are the different trees of f and of t, and of Label's eight those that are not among
+//! them. Write lacks no frame: it holds one beside those of t's forks, no more than Read had for the trees
+//! pending, or beside those of f's, where Translate had two a node. Nor does Translate lack a node: a rule
+//! that has its frames has at most 2,048.
 
 use crate::{
     case, chain, field, labelled, limited, packet, printed, refused, same, stems, Case, DOUBLE,
@@ -15,9 +15,10 @@ use crate::{
 use compare::{labelled_line, PAPERS};
 use std::path::Path;
 
-/// Document 01's rule, 212101021010, labelled with 10: 12 + 2 + 8 nodes.
+/// Document 01's rule, 212101021010, labelled with 10. The rule is 0, 10, 21010, 121010 and itself. Label
+/// makes KK, which is Kt too, Δf, Δ(Δf)(KK), Δ(Kt) and the whole.
 const TEXT: &str = "212010212121010210102010";
-const LINE: &str = "0 0 22 212010212121010210102010";
+const LINE: &str = "0 0 10 212010212121010210102010";
 
 /// A variable whose abstraction lies outside the rule.
 const OPEN_RULE: &[u8] = &[2, 3, 1];
@@ -104,13 +105,13 @@ fn broken_values() -> Vec<Case> {
     ]
 }
 
-/// 16,384 bytes: λx. Δ in 5, an argument of 16,371 digits in 3 + 16,371, the label 10 in 5. The rule is
-/// KΔ, 200, and 3 + 2 + 8 nodes are used. A program that takes in fewer bytes finds the label missing.
+/// 16,384 bytes: λx. Δ in 5, an argument of 16,371 digits in 3 + 16,371, the label 10 in 5. Used are 0 and
+/// 200, 10, and five that Label makes, as above. A program that takes in fewer bytes finds the label missing.
 fn lengths() -> Vec<Case> {
     let filled = |digits| labelled(packet(LEAF, &[&stems(digits)]), "10");
     let longest = filled(16_371);
     assert_eq!(longest.len(), 16_384);
-    let line = "0 0 13 212010212002010";
+    let line = "0 0 8 212010212002010";
     let in_two = Case {
         cut: Some(9_000),
         ..case("16,384 bytes in two pieces", longest.clone(), line)
@@ -130,42 +131,64 @@ fn lengths() -> Vec<Case> {
     ]
 }
 
-/// 8,192 nodes and 4,096 frames. λx. Δ has 3 nodes: with Label's 8 a label of 8,181 digits just fits.
-/// With one of 8,182 Label lacks a node, with one of 8,189, which Read just lays, all eight, and one of
-/// 8,190 Read refuses. Forks in first branches: 4,089 and 4,090 leaves are 8,179 digits.
+/// 8,192 nodes. λx. Δ is 0 and 200. A label of stems brings one node for each digit but the leaf, K among
+/// them, and Label makes KK, Δf, Δ(Δf)(KK), Kt, Δ(Kt) and the whole: 8,185 digits just fit. With 8,186
+/// Label lacks a node, with 8,191, which Read just lays, all six, and 8,192 Read refuses.
 ///
-/// A rule of 8,193 nodes lacks nodes; one of 8,192, and one of 2,049, lacks frames, two a node; one of
-/// 2,048 has them (`chain`, as in the other program's test), and with the label 10 uses 2,058.
-fn room() -> Vec<Case> {
-    let leaf = |text: &str| labelled(packet(LEAF, &[]), text);
+/// A rule of 8,193 nodes lacks frames, two a node, and so does one of 2,049; one of 2,048 has them. That
+/// one (`chain`, as in the other program's test) is 820 different trees; with the label 10, which is not
+/// among them, Label makes five, as above.
+fn nodes() -> Vec<Case> {
     let chained = |k, variables| labelled(packet(&chain(k, variables), &[]), "10");
     let rule = "21".repeat(409) + &"200".repeat(410);
-    let most = stems(8_181);
-    let deep = "2".repeat(4_089) + &"0".repeat(4_090);
+    let most = stems(8_185);
     vec![
         case(
             "8,192 nodes",
             leaf(&most),
             format!("0 0 8192 2120{most}212002010"),
         ),
-        refused("8,193 nodes", leaf(&stems(8_182)), 8),
-        refused("a label of 8,189 digits", leaf(&stems(8_189)), 8),
-        refused("a label of 8,190 digits", leaf(&stems(8_190)), 8),
-        refused("a label of 16,376 digits", leaf(&stems(16_376)), 8),
-        case(
-            "a deep label",
-            leaf(&deep),
-            format!("0 0 8190 2120{deep}212002010"),
-        ),
-        refused("a rule of 8,193 nodes", chained(1_639, 0), 8),
-        refused("a rule of 8,192 nodes", chained(1_638, 2), 9),
+        refused("8,193 nodes", leaf(&stems(8_186)), 8),
+        refused("a label of 8,191 stems", leaf(&stems(8_191)), 8),
+        refused("a label of 8,192 stems", leaf(&stems(8_192)), 8),
+        refused("a label of 16,376 stems", leaf(&stems(16_376)), 8),
+        refused("a rule of 8,193 nodes", chained(1_639, 0), 9),
         refused("a rule of 2,049 nodes", chained(409, 3), 9),
         case(
             "a rule of 2,048 nodes",
             chained(410, 0),
-            format!("0 0 2058 21201021{rule}2010"),
+            format!("0 0 826 21201021{rule}2010"),
         ),
     ]
+}
+
+/// 4,096 frames by Read: forks in first branches leave as many trees pending as there are leaves. The
+/// innermost of 4,095 is 200: 2 + 4,094 nodes, and Label makes K too: 4,103. One fork more lacks a frame.
+///
+/// 16,384 out bytes: a label of 16,371 digits, a stem over 5,456 forks of 10, which end in 10, has a
+/// labelled tree of 4 + 16,371 + 2 + 3 + 4 digits, and uses 2 + 1 + 5,456 + 1 nodes and six of Label. One
+/// stem more is one digit too many.
+fn frames_and_out_bytes() -> Vec<Case> {
+    let deep = |forks| "2".repeat(forks) + &"0".repeat(forks + 1);
+    let most = deep(4_095);
+    let wide = |stems| "1".repeat(stems) + &"210".repeat(5_456) + "10";
+    let text = format!("2120{}212002010", wide(1));
+    assert_eq!(text.len(), 16_384);
+    vec![
+        case(
+            "4,096 frames by Read",
+            leaf(&most),
+            format!("0 0 4103 2120{most}212002010"),
+        ),
+        refused("4,097 frames by Read", leaf(&deep(4_096)), 9),
+        case("16,384 digits", leaf(&wide(1)), format!("0 0 5466 {text}")),
+        refused("16,385 digits", leaf(&wide(2)), 10),
+    ]
+}
+
+/// λx. Δ with this label.
+fn leaf(label: &str) -> Vec<u8> {
+    labelled(packet(LEAF, &[]), label)
 }
 
 /// The text that the program `label_packet` prints for a packet.
@@ -206,15 +229,16 @@ impl Labelled {
 /// "Without resource limits, a labelled rule on an argument gives the rule's tree in exactly six more
 /// steps" ([4]), whatever its label is.
 ///
-/// λx. x takes 4 steps and 2 nodes. The labelled tree spreads; Δ(Δf)(KK) spreads, KK drops the argument
-/// and gives K, f takes its steps, and K on its tree is the stem rule; Kt drops the argument; and the
-/// last application drops t: 6 steps and 1 node beside f's.
+/// λx. x is 0, 10 and I; on the labelled tree W it takes 4 steps and makes KW and ΔW. W spreads; Δ(Δf)(KK)
+/// spreads, KK drops the argument and gives K, f takes its steps, and K on its tree is the stem rule; Kt
+/// drops the argument; and the last application drops t: 6 steps beside f's.
 ///
-/// λx. x x on the leaf takes 10 steps and 5 nodes, and gives 10. Used are 5 + 24 + 1 nodes before, and 8
-/// are made.
+/// λx. x x on the leaf takes 10 steps, makes 200, and gives 10, and K of that is KK. W brings KK, 121010,
+/// the rule, its stem, Δ(Δf)(KK), Δ(Kt) and itself: 3 + 7 + 2 + 1 nodes.
 ///
-/// KΔ drops its argument in 1 step. Its label here, λx. x x, never ends on that argument, itself, and
-/// is not run. Used are 5 + 25 + 12 nodes before, and 3 are made.
+/// KΔ drops its argument in 1 step, and K of the leaf is KΔ. Its label here, λx. x x, never ends on that
+/// argument, itself, and is not run. W brings KK, 200, 1200, Δ(Δf)(KK), 121010, the label, Kt, Δ(Kt) and
+/// itself: 3 + 9 + 2 nodes.
 fn labelled_rules() -> Vec<Labelled> {
     let endless = "212101021010";
     let double = |name, limit, line| Labelled {
@@ -234,9 +258,9 @@ fn labelled_rules() -> Vec<Labelled> {
         line,
     };
     vec![
-        double("a labelled rule, limit 20", 20, "0 20 38 10"),
+        double("a labelled rule, limit 20", 20, "0 20 13 10"),
         double("a labelled rule, limit 19", 19, "7 0 0 -"),
-        leaf("an endless label, limit 11", 11, "0 11 45 0"),
+        leaf("an endless label, limit 11", 11, "0 11 14 0"),
         leaf("an endless label, limit 10", 10, "7 0 0 -"),
     ]
 }
@@ -247,7 +271,8 @@ pub fn compare(lazvorn: &Path, label_packet: &Path) -> bool {
         broken_packets(),
         broken_values(),
         lengths(),
-        room(),
+        nodes(),
+        frames_and_out_bytes(),
     ];
     let cases: Vec<Case> = parts.into_iter().flatten().collect();
     let line =

@@ -20,11 +20,15 @@
 //! s LEVELS FRAMES OUT             Write of a node whose branches are one node, whose branches are one
 //!                                 node, and so on to a leaf: 0, digits
 //! t NODES FRAMES BYTES            Translate into an empty table: 0, node, used, text
+//! i NODES FRAMES TREE TREE ..     the first tree, by Read or by Translate, into a table that has the
+//!                                 others in order, with so many nodes free: what r and t print
 //! a NODES FRAMES LIMIT TREE ..    the first tree applied to the second, that to the third, and so on
 //!                                 under one step limit, with so many nodes free: 0, steps, new
 //!                                 nodes, text. A tree is a text, or a rule, x and its bytes
 //! l NODES TREE TREE               Label of the first tree with the second, with so many nodes free:
 //!                                 0, node, used, text
+//! e TREE TREE ..                  `same` of the first two of these trees' nodes: 0, the nodes, and 1 if
+//!                                 the trees are equal, else 0
 //! n TREE                          `unlabel` of a tree's node: 0, the nodes of rule and label, and the
 //!                                 texts of these
 //! d TREE TREE                     Label of the first tree with the second, then `unlabel`: what n
@@ -34,8 +38,8 @@
 //!                                 third, and so on: what a prints
 //! u LETTER USED A B WORD ..       in a table of these words, Read (r) of 0, Write (w) of node A,
 //!                                 Translate (t) of 02 00, Apply (a) of A to B under the limit 100,
-//!                                 Label (l) of A with B, `unlabel` (n) of A: what the command of that
-//!                                 letter prints
+//!                                 Label (l) of A with B, `unlabel` (n) of A, `same` (e) of A and B: what
+//!                                 the command of that letter prints, without the nodes of e
 //! p BYTES                         Run of a packet with the room that the program lends: the
 //!                                 program's line
 //! k BYTES                         `label_packet` with this room: the line of the program of this name
@@ -46,7 +50,7 @@
 //!                                 applied to the next, and so on: what a prints
 //! ```
 
-use lazvorn::{Numbers, Parts};
+use lazvorn::{Numbers, Parts, Same};
 
 const SCRIPT: &str = include_str!("../script");
 const EXPECTED: &str = include_str!("../expected");
@@ -133,9 +137,15 @@ impl Memory {
         accepted(lazvorn::read(table, 0, stack, text))
     }
 
-    /// A tree into the table, with ample room: a text, or a rule, x and its bytes.
+    /// A tree into the table, with ample room.
     fn load(&mut self, used: usize, tree: &str) -> Answer<Numbers> {
-        let (table, stack) = (&mut self.table[..TABLE], &mut self.stack[..STACK]);
+        self.load_in([TABLE, STACK], used, tree)
+    }
+
+    /// A tree into the table, with so many words of table and stack: a text, or a rule, x and its bytes.
+    fn load_in(&mut self, room: [usize; 2], used: usize, tree: &str) -> Answer<Numbers> {
+        let table = lend(&mut self.table, room[0])?;
+        let stack = lend(&mut self.stack, room[1])?;
         accepted(match tree.strip_prefix('x') {
             Some(rule) => lazvorn::translate(table, used, stack, &bytes_of(rule)?),
             None => lazvorn::read(table, used, stack, tree.as_bytes()),
@@ -190,6 +200,16 @@ impl Memory {
         Ok(format!("0 {} {} {rule} {label}", parts.rule, parts.label))
     }
 
+    /// The line of `same`, after the nodes where they are shown.
+    fn compared(&self, nodes: &[usize], same: Same) -> Answer<String> {
+        if same.refusal != 0 {
+            return Err(Early::Refused(same.refusal));
+        }
+        let numbers = [&[0], nodes, &[same.equal]].concat();
+        let numbers: Vec<String> = numbers.iter().map(usize::to_string).collect();
+        Ok(numbers.join(" "))
+    }
+
     /// The line of Apply, where `before` nodes were in use.
     fn applied(&mut self, before: usize, applied: Numbers) -> Answer<String> {
         let applied = accepted(applied)?;
@@ -203,6 +223,11 @@ impl Memory {
 }
 
 // ---- commands
+
+fn read_command(m: &mut Memory, nodes: &str, frames: &str, text: &[u8]) -> Answer<String> {
+    let made = m.read(nodes, frames, text)?;
+    m.made(made)
+}
 
 fn repeat_command(m: &mut Memory, nodes: &str, frames: &str, text: &str) -> Answer<String> {
     let read = m.read(nodes, frames, text.as_bytes())?;
@@ -241,6 +266,22 @@ fn translate_command(m: &mut Memory, nodes: &str, frames: &str, rule: &[u8]) -> 
     let stack = lend(&mut m.stack, 3 * number(frames)?)?;
     let made = lazvorn::translate(table, 0, stack, rule);
     m.made(made)
+}
+
+fn into_command(m: &mut Memory, room: [&str; 2], tree: &str, others: &[&str]) -> Answer<String> {
+    let (_, used) = m.load_all(others)?;
+    let words = [2 * (used + number(room[0])?), 3 * number(room[1])?];
+    let made = m.load_in(words, used, tree)?;
+    m.made(made)
+}
+
+fn same_command(m: &mut Memory, trees: &[&str]) -> Answer<String> {
+    let (nodes, used) = m.load_all(trees)?;
+    let [a, b, ..] = nodes[..] else {
+        return Err(Early::NoCommand);
+    };
+    let same = lazvorn::same(&m.table[..TABLE], used, a, b);
+    m.compared(&[a, b], same)
 }
 
 fn apply_command(m: &mut Memory, room: [&str; 3], trees: &[&str]) -> Answer<String> {
@@ -323,6 +364,10 @@ fn words_command(m: &mut Memory, letter: &str, rest: &[&str]) -> Answer<String> 
         let parts = lazvorn::unlabel(table, used, a);
         return m.unlabelled(parts);
     }
+    if letter == "e" {
+        let same = lazvorn::same(table, used, a, b);
+        return m.compared(&[], same);
+    }
     let (stack, out) = (&mut m.stack[..STACK], &mut m.out[..OUT]);
     let answer = match letter {
         "r" => lazvorn::read(table, used, stack, b"0"),
@@ -399,13 +444,9 @@ fn label_packet_in_room_command(m: &mut Memory, room: [&str; 3], packet: &[u8]) 
 fn command(m: &mut Memory, fields: &[&str]) -> Answer<String> {
     match *fields {
         ["r", nodes, frames, ref text @ ..] if text.len() < 2 => {
-            let made = m.read(nodes, frames, text.concat().as_bytes())?;
-            m.made(made)
+            read_command(m, nodes, frames, text.concat().as_bytes())
         }
-        ["b", nodes, frames, ref bytes @ ..] => {
-            let made = m.read(nodes, frames, &gathered(bytes)?)?;
-            m.made(made)
-        }
+        ["b", nodes, frames, ref bytes @ ..] => read_command(m, nodes, frames, &gathered(bytes)?),
         ["c", nodes, frames, count, part, tail] => {
             repeat_command(m, nodes, frames, &(part.repeat(number(count)?) + tail))
         }
@@ -418,6 +459,10 @@ fn command(m: &mut Memory, fields: &[&str]) -> Answer<String> {
             apply_command(m, [nodes, frames, limit], trees)
         }
         ["l", nodes, rule, label] => label_command(m, nodes, rule, label),
+        ["i", nodes, frames, tree, ref others @ ..] => {
+            into_command(m, [nodes, frames], tree, others)
+        }
+        ["e", ref trees @ ..] => same_command(m, trees),
         ["n", tree] => unlabel_command(m, tree),
         ["d", rule, label] => both_ways_command(m, rule, label),
         ["f", nodes, frames, limit, ref trees @ ..] => {
@@ -521,6 +566,8 @@ mod tests {
             "d 0",
             "f 1 1 1 0",
             "o 1 1",
+            "i 1 1",
+            "e 0",
             "h 1 1 1",
             "a 1 1 1",
         ] {

@@ -10,31 +10,31 @@ use Rattle.bracket.proofs.copy.Statement.{statement}
 use Rattle.bracket.proofs.copy.Tie as tie
 
 abbrev Inv-loop : tie.InvT-loop
-Inv-loop from p n to₀ q i₀ to i = (i ≤ n) × (to ≡ sets to₀ q (take i (drop p from))) × (length to ≡ length to₀)
+Inv-loop stack₀ p n q i₀ stack i = (i ≤ n) × (stack ≡ sets stack₀ q (take i (drop p stack₀))) × (length stack ≡ length stack₀)
 
 abbrev μ-loop : tie.MeasureT-loop
-μ-loop from p n to₀ q i₀ to i = n - i
+μ-loop stack₀ p n q i₀ stack i = n - i
 
 loop-holds : tie.Need-loop-holds Inv-loop μ-loop
 loop-holds c = (omega arith, refl, refl)
 
-add-to : tie.Need-add-to Inv-loop μ-loop
-add-to c = omega arith
+add-stack : tie.Need-add-stack Inv-loop μ-loop
+add-stack c = omega arith
 
-mul-to : tie.Need-mul-to Inv-loop μ-loop
-mul-to c = omega arith
+mul-stack : tie.Need-mul-stack Inv-loop μ-loop
+mul-stack c = omega arith
 
-shared-slice-read-to : tie.Need-shared-slice-read-to Inv-loop μ-loop
-shared-slice-read-to c = omega arith
+slice-read-stack : tie.Need-slice-read-stack Inv-loop μ-loop
+slice-read-stack c = omega arith
 
-add-to-2 : tie.Need-add-to-2 Inv-loop μ-loop
-add-to-2 c = omega arith
+add-stack-2 : tie.Need-add-stack-2 Inv-loop μ-loop
+add-stack-2 c = omega arith
 
-mul-to-2 : tie.Need-mul-to-2 Inv-loop μ-loop
-mul-to-2 c = omega arith
+mul-stack-2 : tie.Need-mul-stack-2 Inv-loop μ-loop
+mul-stack-2 c = omega arith
 
-slice-write-to : tie.Need-slice-write-to Inv-loop μ-loop
-slice-write-to c = omega arith
+slice-write-stack : tie.Need-slice-write-stack Inv-loop μ-loop
+slice-write-stack c = omega arith
 
 add-i : tie.Need-add-i Inv-loop μ-loop
 add-i c = omega arith
@@ -48,8 +48,7 @@ loop-again c =
     let i = c .before .before .loop .i in
     let a = c .before .before .before .args in (
       omega arith,
-      ap (λ (l : List ℕ). set l (a .q + i) (getD (a .from .now) (a .p + i) 0)) (v .1)
-          ∙ copy-step (a .from .now) (a .to .now) (a .p) (a .q) i (omega arith),
+      ap (λ (l : List ℕ). set l (a .q + i) (getD l (a .p + i) 0)) (v .1) ∙ copy-step (a .stack .now) (a .p) (a .q) i (omega arith) (omega arith),
       simp length-set (v .2),
     )
 
@@ -60,7 +59,7 @@ returns : tie.Need-returns Inv-loop μ-loop
 returns c =
     let a = c .before .before .args in
     let e : c .before .loop .i ≡ a .n = omega arith in
-    c .before .loop .inv .1 ∙ ap (λ (k : ℕ). sets (a .to .now) (a .q) (take k (drop (a .p) (a .from .now)))) e
+    c .before .loop .inv .1 ∙ ap (λ (k : ℕ). sets (a .stack .now) (a .q) (take k (drop (a .p) (a .stack .now)))) e
 
 pub copy-spec : {M : Type 1} → statement M
 copy-spec =
@@ -69,12 +68,12 @@ copy-spec =
     Inv-loop
     μ-loop
     loop-holds
-    add-to
-    mul-to
-    shared-slice-read-to
-    add-to-2
-    mul-to-2
-    slice-write-to
+    add-stack
+    mul-stack
+    slice-read-stack
+    add-stack-2
+    mul-stack-2
+    slice-write-stack
     add-i
     loop-less
     loop-again

@@ -7,47 +7,47 @@ use borrow.Author.Needs.{needs}
 use Rattle.bracket.proofs.put5.Statement.{statement}
 use Rattle.bracket.proofs.put5.Tie as tie
 
-mul-to : tie.Need-mul-to
-mul-to c = search needs
+mul-stack : tie.Need-mul-stack
+mul-stack c = search needs
 
-slice-write-to : tie.Need-slice-write-to
-slice-write-to c = search needs
+slice-write-stack : tie.Need-slice-write-stack
+slice-write-stack c = search needs
 
-add-to : tie.Need-add-to
-add-to c = search needs
+add-stack : tie.Need-add-stack
+add-stack c = search needs
 
-mul-to-2 : tie.Need-mul-to-2
-mul-to-2 c = search needs
+mul-stack-2 : tie.Need-mul-stack-2
+mul-stack-2 c = search needs
 
-slice-write-to-2 : tie.Need-slice-write-to-2
-slice-write-to-2 c = simp length-set (omega arith)
+slice-write-stack-2 : tie.Need-slice-write-stack-2
+slice-write-stack-2 c = simp length-set (omega arith)
 
-add-to-2 : tie.Need-add-to-2
-add-to-2 c = search needs
+add-stack-2 : tie.Need-add-stack-2
+add-stack-2 c = search needs
 
-mul-to-3 : tie.Need-mul-to-3
-mul-to-3 c = search needs
+mul-stack-3 : tie.Need-mul-stack-3
+mul-stack-3 c = search needs
 
-slice-write-to-3 : tie.Need-slice-write-to-3
-slice-write-to-3 c = simp length-set (omega arith)
+slice-write-stack-3 : tie.Need-slice-write-stack-3
+slice-write-stack-3 c = simp length-set (omega arith)
 
-add-to-3 : tie.Need-add-to-3
-add-to-3 c = search needs
+add-stack-3 : tie.Need-add-stack-3
+add-stack-3 c = search needs
 
-mul-to-4 : tie.Need-mul-to-4
-mul-to-4 c = search needs
+mul-stack-4 : tie.Need-mul-stack-4
+mul-stack-4 c = search needs
 
-slice-write-to-4 : tie.Need-slice-write-to-4
-slice-write-to-4 c = simp length-set (omega arith)
+slice-write-stack-4 : tie.Need-slice-write-stack-4
+slice-write-stack-4 c = simp length-set (omega arith)
 
-add-to-4 : tie.Need-add-to-4
-add-to-4 c = search needs
+add-stack-4 : tie.Need-add-stack-4
+add-stack-4 c = search needs
 
-mul-to-5 : tie.Need-mul-to-5
-mul-to-5 c = search needs
+mul-stack-5 : tie.Need-mul-stack-5
+mul-stack-5 c = search needs
 
-slice-write-to-5 : tie.Need-slice-write-to-5
-slice-write-to-5 c = simp length-set (omega arith)
+slice-write-stack-5 : tie.Need-slice-write-stack-5
+slice-write-stack-5 c = simp length-set (omega arith)
 
 add-result : tie.Need-add-result
 add-result c = search needs
@@ -62,20 +62,20 @@ pub put5-spec : {M : Type 1} → statement M
 put5-spec =
     tie.close
     (tie.spec
-    mul-to
-    slice-write-to
-    add-to
-    mul-to-2
-    slice-write-to-2
-    add-to-2
-    mul-to-3
-    slice-write-to-3
-    add-to-3
-    mul-to-4
-    slice-write-to-4
-    add-to-4
-    mul-to-5
-    slice-write-to-5
+    mul-stack
+    slice-write-stack
+    add-stack
+    mul-stack-2
+    slice-write-stack-2
+    add-stack-2
+    mul-stack-3
+    slice-write-stack-3
+    add-stack-3
+    mul-stack-4
+    slice-write-stack-4
+    add-stack-4
+    mul-stack-5
+    slice-write-stack-5
     add-result
     same-length
     returns)

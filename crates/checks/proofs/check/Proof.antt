@@ -1,47 +1,55 @@
--- `checks::check` meets its contract: each test that is met leads to its refusal. Assumes nothing.
-use mathlib.Core.Bool.{true, false}
-use mathlib.Core.Path.{sym, _∙_}
+-- `checks::check` meets its contract: 1, and the table's length. Assumes nothing.
 use borrow.Author.Tests.{not-true, not-false}
-use native.Mathlib.Omega.{arith}
-use Rattle.checks.proofs.Scan.{not-within, long-table, long-stack, over-used, by-scan}
+use Rattle.checks.proofs.Entry.{too-long, not-within, long-stack}
 use borrow.Author.Needs.{needs}
 use Rattle.checks.proofs.check.Statement.{statement}
 use Rattle.checks.proofs.check.Tie as tie
 
 returns : tie.Need-returns
-returns c =
-    let a = c .before .before .before .args in
-    not-within (a .within) (a .table .now) (a .used) (a .stack .now) (not-true _ (c .if1 .taken))
+returns c = too-long _ _ _ _ (c .if1 .taken)
+
+check-64-requires : tie.Need-check-64-requires
+check-64-requires c κs = search needs
 
 returns-2 : tie.Need-returns-2
-returns-2 c =
-    let a = c .before .before .before .before .args in
-    long-table (a .within) (a .table .now) (a .used) (a .stack .now) (not-false _ (c .before .if1 .left)) (c .if2 .taken)
+returns-2 c = search needs
 
 returns-3 : tie.Need-returns-3
-returns-3 c =
-    let a = c .before .before .before .before .before .args in
-    long-stack (a .within) (a .table .now) (a .used) (a .stack .now) (not-false _ (c .before .before .if1 .left)) (c .before .if2 .left) (c .if3 .taken)
+returns-3 c = not-within _ _ _ _ (not-true _ (c .if3 .taken))
+
+check-1024-requires : tie.Need-check-1024-requires
+check-1024-requires c κs = search needs
 
 returns-4 : tie.Need-returns-4
-returns-4 c =
-    let a = c .before .before .before .before .before .before .args in
-    over-used (a .within) (a .table .now) (a .used) (a .stack .now) (not-false _ (c .before .before .before .if1 .left)) (c .before .before .if2 .left) (c .before .if3 .left) (c .if4 .taken)
-
-is-sound-requires : tie.Need-is-sound-requires
-is-sound-requires c κs = search needs
+returns-4 c = search needs
 
 returns-5 : tie.Need-returns-5
-returns-5 c =
-    let a = c .before .before .before .before .before .before .before .before .args in
-    by-scan (a .within) (a .table .now) (a .used) (a .stack .now) (not-false _ (c .before .before .before .before .before .if1 .left)) (c .before .before .before .before .if2 .left) (c .before .before .before .if3 .left) (c .before .before .if4 .left) true (sym (c .if5 .taken) ∙ c .before .is-sound .ensures)
+returns-5 c = long-stack _ _ _ _ (not-false _ (c .before .before .if3 .left)) (c .before .before .before .before .if1 .left) (c .if5 .taken)
+
+check-8192-requires : tie.Need-check-8192-requires
+check-8192-requires c κs = search needs
 
 returns-6 : tie.Need-returns-6
-returns-6 c =
-    let a = c .before .before .before .before .before .before .before .before .args in
-    by-scan (a .within) (a .table .now) (a .used) (a .stack .now) (not-false _ (c .before .before .before .before .before .if1 .left)) (c .before .before .before .before .if2 .left) (c .before .before .before .if3 .left) (c .before .before .if4 .left) false (sym (c .if5 .left) ∙ c .before .is-sound .ensures)
+returns-6 c = search needs
+
+check-65536-requires : tie.Need-check-65536-requires
+check-65536-requires c κs = search needs
+
+returns-7 : tie.Need-returns-7
+returns-7 c = search needs
 
 pub check-spec : {M : Type 1} → statement M
 check-spec =
     tie.close
-    (tie.spec returns returns-2 returns-3 returns-4 is-sound-requires returns-5 returns-6)
+    (tie.spec
+    returns
+    check-64-requires
+    returns-2
+    returns-3
+    check-1024-requires
+    returns-4
+    returns-5
+    check-8192-requires
+    returns-6
+    check-65536-requires
+    returns-7)

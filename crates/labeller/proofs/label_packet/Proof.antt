@@ -1,10 +1,8 @@
--- `labeller::label_packet` meets its contract: 1, 6, 5, 4, and then the stages. Assumes nothing.
-use mathlib.Core.Path.{_≡_, refl, sym, _∙_}
-use native.Mathlib.Omega.{arith}
+-- `labeller::label_packet` meets its contract: 1, 6, and the table's length. Assumes nothing.
+use mathlib.Core.Path.{sym, _∙_}
 use borrow.Author.Tests.{not-true, not-false}
-use Rattle.packet.proofs.Parts.{packet-parts}
 use Rattle.endings.proofs.Ways.{empty-ready}
-use Rattle.labeller.proofs.Ways.{too-long, packet-none, label-none, refused, passed}
+use Rattle.labeller.proofs.Ways.{too-long, packet-none, label-none}
 use borrow.Author.Needs.{needs}
 use Rattle.labeller.proofs.label_packet.Statement.{statement}
 use Rattle.labeller.proofs.label_packet.Tie as tie
@@ -47,8 +45,7 @@ same-length-6 c = search needs
 returns-2 : tie.Need-returns-2
 returns-2 c =
     let a = c .before .before .before .before .before .before .before .before .before .before .before .before .args in
-    packet-none (a .table .now) (a .stack .now) (a .out .now) (a .packet .now) (c .before .before .before .before .lengths-fit .ensures) (not-false _ (c .before .before .before .if1 .left))
-    (sym (c .enum-told .given .1) ∙ c .before .before .read-packet .ensures)
+    packet-none (a .table .now) (a .stack .now) (a .out .now) (a .packet .now) (c .before .before .before .before .lengths-fit .ensures) (not-false _ (c .before .before .before .if1 .left)) (sym (c .enum-told .given .1) ∙ c .before .before .read-packet .ensures)
 
 same-length-7 : tie.Need-same-length-7
 same-length-7 c = search needs
@@ -62,65 +59,85 @@ same-length-9 c = search needs
 returns-3 : tie.Need-returns-3
 returns-3 c =
     let a = c .before .before .before .before .before .before .before .before .before .before .before .before .before .before .args in
-    let p = packet-parts (a .packet .now) _ _ _ (sym (c .before .before .arguments .given .1) ∙ c .before .before .before .before .read-packet .ensures) in
-    label-none (a .table .now) (a .stack .now) (a .out .now) (a .packet .now) (c .before .before .before .before .before .before .lengths-fit .ensures) (not-false _ (c .before .before .before .before .before .if1 .left)) p (c .if2 .taken)
+    label-none (a .table .now) (a .stack .now) (a .out .now) (a .packet .now) (sym (c .before .before .before .before .before .before .lengths-fit .ensures) ∙ not-false _ (c .before .before .before .before .before .if1 .left)) (sym (c .before .before .arguments .given .1) ∙ c .before .before .before .before .read-packet .ensures) (c .if2 .taken)
 
-check-parts-requires : tie.Need-check-parts-requires
-check-parts-requires c κs =
-    let a = c .before .before .before .before .before .before .before .before .before .before .before .before .before .before .args in
-    let p = packet-parts (a .packet .now) _ _ _ (sym (c .before .before .arguments .given .1) ∙ c .before .before .before .before .read-packet .ensures) in
-    (p .rule-stands, p .stand, p .label-stands)
-
-enum-known-checked : tie.Need-enum-known-checked
-enum-known-checked c = search needs
+label-64-requires : tie.Need-label-64-requires
+label-64-requires c κs = (c .before .before .before .if3 .taken, sym (c .before .before .before .before .before .before .before .before .before .before .lengths-fit .ensures) ∙ not-false _ (c .before .before .before .before .before .before .before .before .before .if1 .left), c .before .before .before .before .if2 .left, (_, sym (c .before .before .before .before .before .before .arguments .given .1) ∙ c .before .before .before .before .before .before .before .before .read-packet .ensures))
 
 same-length-10 : tie.Need-same-length-10
-same-length-10 c = search needs
+same-length-10 c = c .before .before .before .before .before .before .label-64 .kept .0
 
 same-length-11 : tie.Need-same-length-11
-same-length-11 c = search needs
+same-length-11 c = c .before .before .before .before .before .before .label-64 .kept .1 .0
 
 same-length-12 : tie.Need-same-length-12
-same-length-12 c = search needs
+same-length-12 c = c .before .before .before .before .before .before .label-64 .kept .1 .1 .0
 
 returns-4 : tie.Need-returns-4
-returns-4 c =
-    let a = c .before .before .before .before .before .before .before .before .before .before .before .before .before .before .before .before .before .before .args in
-    let p = packet-parts (a .packet .now) _ _ _ (sym (c .before .before .before .before .before .before .arguments .given .1) ∙ c .before .before .before .before .before .before .before .before .read-packet .ensures) in
-    refused (a .table .now) (a .stack .now) (a .out .now) (a .packet .now) (c .before .before .before .before .before .before .before .before .before .before .lengths-fit .ensures) (not-false _ (c .before .before .before .before .before .before .before .before .before .if1 .left)) p (c .before .before .before .before .if2 .left)
-    (rw (c .before .checked .given .1) at (c .before .before .before .check-parts .ensures))
+returns-4 c = c .before .before .before .before .before .before .label-64 .ensures
 
-enum-told-2 : tie.Need-enum-told-2
-enum-told-2 c = search needs
-
-sub-at : tie.Need-sub-at
-sub-at c =
-    let a = c .before .before .before .before .before .before .before .before .before .before .before .before .before .before .before .before .before .args in
-    let p = packet-parts (a .packet .now) _ _ _ (sym (c .before .before .before .before .before .arguments .given .1) ∙ c .before .before .before .before .before .before .before .read-packet .ensures) in
-    p .label-stands (c .before .before .before .if2 .left) .0
-
-label-stages-requires : tie.Need-label-stages-requires
-label-stages-requires c κs =
-    let a = c .before .before .before .before .before .before .before .before .before .before .before .before .before .before .before .before .before .before .before .before .args in
-    let p = packet-parts (a .packet .now) _ _ _ (sym (c .before .before .before .before .before .before .before .before .arguments .given .1) ∙ c .before .before .before .before .before .before .before .before .before .before .read-packet .ensures) in
-    let h = p .label-stands (c .before .before .before .before .before .before .if2 .left) in
-    (empty-ready (a .table .now) (a .stack .now) (a .out .now) (sym (c .before .before .before .before .before .before .before .before .before .before .before .before .lengths-fit .ensures) ∙ not-false _ (c .before .before .before .before .before .before .before .before .before .before .before .if1 .left)), p .rule-stands, omega (arith, h .1))
+label-256-requires : tie.Need-label-256-requires
+label-256-requires c κs = (c .before .before .before .if4 .taken, sym (c .before .before .before .before .before .before .before .before .before .before .before .lengths-fit .ensures) ∙ not-false _ (c .before .before .before .before .before .before .before .before .before .before .if1 .left), c .before .before .before .before .before .if2 .left, (_, sym (c .before .before .before .before .before .before .before .arguments .given .1) ∙ c .before .before .before .before .before .before .before .before .before .read-packet .ensures))
 
 same-length-13 : tie.Need-same-length-13
-same-length-13 c = search needs
+same-length-13 c = c .before .before .before .before .before .before .label-256 .kept .0
 
 same-length-14 : tie.Need-same-length-14
-same-length-14 c = search needs
+same-length-14 c = c .before .before .before .before .before .before .label-256 .kept .1 .0
 
 same-length-15 : tie.Need-same-length-15
-same-length-15 c = search needs
+same-length-15 c = c .before .before .before .before .before .before .label-256 .kept .1 .1 .0
 
 returns-5 : tie.Need-returns-5
-returns-5 c =
-    let a = c .before .before .before .before .before .before .before .before .before .before .before .before .before .before .before .before .before .before .before .before .before .before .before .before .before .before .before .args in
-    let p = packet-parts (a .packet .now) _ _ _ (sym (c .before .before .before .before .before .before .before .before .before .before .before .before .before .before .before .arguments .given .1) ∙ c .before .before .before .before .before .before .before .before .before .before .before .before .before .before .before .before .before .read-packet .ensures) in
-    c .before .before .before .before .before .before .label-stages .ensures ∙ passed (a .table .now) (a .stack .now) (a .out .now) (a .packet .now) (c .before .before .before .before .before .before .before .before .before .before .before .before .before .before .before .before .before .before .before .lengths-fit .ensures) (not-false _ (c .before .before .before .before .before .before .before .before .before .before .before .before .before .before .before .before .before .before .if1 .left)) p (c .before .before .before .before .before .before .before .before .before .before .before .before .before .if2 .left)
-    (rw (c .before .before .before .before .before .before .before .before .before .before .enum-told2 .given .1) at (c .before .before .before .before .before .before .before .before .before .before .before .before .check-parts .ensures))
+returns-5 c = c .before .before .before .before .before .before .label-256 .ensures
+
+label-1024-requires : tie.Need-label-1024-requires
+label-1024-requires c κs = (c .before .before .before .if5 .taken, sym (c .before .before .before .before .before .before .before .before .before .before .before .before .lengths-fit .ensures) ∙ not-false _ (c .before .before .before .before .before .before .before .before .before .before .before .if1 .left), c .before .before .before .before .before .before .if2 .left, (_, sym (c .before .before .before .before .before .before .before .before .arguments .given .1) ∙ c .before .before .before .before .before .before .before .before .before .before .read-packet .ensures))
+
+same-length-16 : tie.Need-same-length-16
+same-length-16 c = c .before .before .before .before .before .before .label-1024 .kept .0
+
+same-length-17 : tie.Need-same-length-17
+same-length-17 c = c .before .before .before .before .before .before .label-1024 .kept .1 .0
+
+same-length-18 : tie.Need-same-length-18
+same-length-18 c = c .before .before .before .before .before .before .label-1024 .kept .1 .1 .0
+
+returns-6 : tie.Need-returns-6
+returns-6 c = c .before .before .before .before .before .before .label-1024 .ensures
+
+label-8192-requires : tie.Need-label-8192-requires
+label-8192-requires c κs = (c .before .before .before .if6 .taken, sym (c .before .before .before .before .before .before .before .before .before .before .before .before .before .lengths-fit .ensures) ∙ not-false _ (c .before .before .before .before .before .before .before .before .before .before .before .before .if1 .left), c .before .before .before .before .before .before .before .if2 .left, (_, sym (c .before .before .before .before .before .before .before .before .before .arguments .given .1) ∙ c .before .before .before .before .before .before .before .before .before .before .before .read-packet .ensures))
+
+same-length-19 : tie.Need-same-length-19
+same-length-19 c = c .before .before .before .before .before .before .label-8192 .kept .0
+
+same-length-20 : tie.Need-same-length-20
+same-length-20 c = c .before .before .before .before .before .before .label-8192 .kept .1 .0
+
+same-length-21 : tie.Need-same-length-21
+same-length-21 c = c .before .before .before .before .before .before .label-8192 .kept .1 .1 .0
+
+returns-7 : tie.Need-returns-7
+returns-7 c = c .before .before .before .before .before .before .label-8192 .ensures
+
+label-65536-requires : tie.Need-label-65536-requires
+label-65536-requires c κs =
+    let a = c .before .before .before .before .before .before .before .before .before .before .before .before .before .before .before .before .before .before .before .before .before .args in
+    let h = sym (c .before .before .before .before .before .before .before .before .before .before .before .before .before .lengths-fit .ensures) ∙ not-false _ (c .before .before .before .before .before .before .before .before .before .before .before .before .if1 .left) in
+    (empty-ready (a .table .now) (a .stack .now) (a .out .now) h .fine .short, h, c .before .before .before .before .before .before .before .if2 .left, (_, sym (c .before .before .before .before .before .before .before .before .before .arguments .given .1) ∙ c .before .before .before .before .before .before .before .before .before .before .before .read-packet .ensures))
+
+same-length-22 : tie.Need-same-length-22
+same-length-22 c = c .before .before .before .before .before .before .label-65536 .kept .0
+
+same-length-23 : tie.Need-same-length-23
+same-length-23 c = c .before .before .before .before .before .before .label-65536 .kept .1 .0
+
+same-length-24 : tie.Need-same-length-24
+same-length-24 c = c .before .before .before .before .before .before .label-65536 .kept .1 .1 .0
+
+returns-8 : tie.Need-returns-8
+returns-8 c = c .before .before .before .before .before .before .label-65536 .ensures
 
 pub label-packet-spec : {M : Type 1} → statement M
 label-packet-spec =
@@ -142,16 +159,28 @@ label-packet-spec =
     same-length-8
     same-length-9
     returns-3
-    check-parts-requires
-    enum-known-checked
+    label-64-requires
     same-length-10
     same-length-11
     same-length-12
     returns-4
-    enum-told-2
-    sub-at
-    label-stages-requires
+    label-256-requires
     same-length-13
     same-length-14
     same-length-15
-    returns-5)
+    returns-5
+    label-1024-requires
+    same-length-16
+    same-length-17
+    same-length-18
+    returns-6
+    label-8192-requires
+    same-length-19
+    same-length-20
+    same-length-21
+    returns-7
+    label-65536-requires
+    same-length-22
+    same-length-23
+    same-length-24
+    returns-8)

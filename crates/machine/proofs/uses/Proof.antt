@@ -13,7 +13,9 @@ use Rattle.frames.specs.declared.Machine.{Machine}
 use Rattle.applying.specs.Machine.{State, Turn, more, turn, after}
 use Rattle.frames.specs.Code.{stateOf, endOf}
 use Rattle.frames.proofs.End as end-type
-use Rattle.machine.proofs.Going.{Going, going-start, going-on, going-over, going-out}
+use Rattle.index.specs.Index.{Ready}
+use Rattle.rules.specs.Code.{ReadyEnd}
+use Rattle.machine.proofs.Going.{Going, going-start, going-on, going-over, going-out, ready-more}
 use borrow.Author.Needs.{needs}
 use native.Mathlib.Omega.{arith}
 use Rattle.machine.proofs.uses.Statement.{statement}
@@ -29,36 +31,41 @@ over ended.Nodes m w s h go = refl
 over ended.Frames m w s h go = refl
 
 abbrev Inv-loop : tie.InvT-loop
-Inv-loop table₀ stack₀ budget state₀ taken₀ table stack state taken =
-    (length table ≡ length table₀) × (length stack ≡ length stack₀)
-    × Going (frames stack₀) (stateOf state₀ table₀ stack₀) budget (stateOf state table stack) taken
+Inv-loop table₀ stack₀ budget index₀ slots state₀ taken₀ table stack index state taken =
+    (length table ≡ length table₀) × (length stack ≡ length stack₀) × (length index ≡ length index₀)
+    × Going (frames stack₀) (stateOf state₀ table₀ stack₀) budget (stateOf state table stack) taken × Ready table (state .used) slots index
 
 abbrev μ-loop : tie.MeasureT-loop
-μ-loop table₀ stack₀ budget state₀ taken₀ table stack state taken = budget - taken
+μ-loop table₀ stack₀ budget index₀ slots state₀ taken₀ table stack index state taken = budget - taken
 
 loop-holds : tie.Need-loop-holds Inv-loop μ-loop
-loop-holds c = (refl, refl, going-start (c .before .before .args .budget) (c .before .before .pre .0))
+loop-holds c = let b = c .before .before .before in (refl, refl, refl, going-start (b .args .budget) (b .pre .0), b .pre .2)
 
 turn-requires : tie.Need-turn-requires Inv-loop μ-loop
 turn-requires c κs =
-    let i = c .before .before .before .loop .inv in
-    (rw (i .1) (i .2 .good), omega (arith, i .2 .counted, c .before .before .before .before .before .before .pre .1))
+    let i = c .before .before .before .before .loop .inv in
+    (rw (i .1) (i .3 .good), omega (arith, i .3 .counted, c .before .before .before .before .before .before .before .before .pre .1), i .4)
 
 enum-told : tie.Need-enum-told Inv-loop μ-loop
 enum-told c = search needs
 
 same-length : tie.Need-same-length Inv-loop μ-loop
-same-length c = c .before .before .before .before .before .turn .kept .0 ∙ c .before .before .before .before .before .before .before .before .before .loop .inv .0
+same-length c = let t = c .before .before .before .before .before .before .before in t .turn .kept .0 ∙ t .before .before .before .before .before .loop .inv .0
 
 same-length-2 : tie.Need-same-length-2 Inv-loop μ-loop
-same-length-2 c = c .before .before .before .before .before .turn .kept .1 .0 ∙ c .before .before .before .before .before .before .before .before .before .loop .inv .1
+same-length-2 c = let t = c .before .before .before .before .before .before .before in t .turn .kept .1 .0 ∙ t .before .before .before .before .before .loop .inv .1
+
+same-length-3 : tie.Need-same-length-3 Inv-loop μ-loop
+same-length-3 c = let t = c .before .before .before .before .before .before .before in t .turn .kept .1 .1 .1 .0 ∙ t .before .before .before .before .before .loop .inv .2
 
 returns : tie.Need-returns Inv-loop μ-loop
 returns c =
-    let t = c .before .before .before .before .before in
-    let i = t .before .before .before .before .loop .inv in
-    going-over (i .2) _ (omega arith) (rw (i .1) at (t .turn .ensures))
-    (over (t .turn .result .end) (t .turn .result .state) (t .turn .last .0) (t .turn .last .1 .0) (c .match .keys2))
+    let t = c .before .before .before .before .before .before .before in
+    let i = t .before .before .before .before .before .loop .inv in (
+      going-over (i .3) _ (omega arith) (rw (i .1) at (t .turn .ensures .0))
+          (over (t .turn .result .end) (t .turn .result .state) (t .turn .last .0) (t .turn .last .1 .0) (c .match .keys2)),
+      t .turn .ensures .1,
+    )
 
 add-taken : tie.Need-add-taken Inv-loop μ-loop
 add-taken c = omega arith
@@ -68,22 +75,29 @@ loop-less c = omega arith
 
 loop-again : tie.Need-loop-again Inv-loop μ-loop
 loop-again c =
-    let t = c .before .before .before .before .before .before .before in
-    let l = t .before .before .before .before .loop in
+    let t = c .before .before .before .before .before .before .before .before .before in
+    let l = t .before .before .before .before .before .loop in
     let i = l .inv in
-    let all = frames (t .before .before .before .before .before .before .before .args .stack .now) in
-    let z = stateOf (t .turn .result .state) (t .turn .last .0) (t .turn .last .1 .0) in
-    let e : more z ≡ turn all (stateOf (l .state) (l .table) (l .stack)) = rw (c .before .enum-told .given .1, i .1) at (t .turn .ensures) in
-    (t .turn .kept .0 ∙ i .0, t .turn .kept .1 .0 ∙ i .1, going-on (i .2) z (omega arith) e)
-
-same-length-3 : tie.Need-same-length-3 Inv-loop μ-loop
-same-length-3 c = c .before .loop .inv .0
+    let a = t .before .before .before .before .before .before .before .before .before .args in
+    let r = t .turn .result in
+    let w = t .turn .last .0 in
+    let z = stateOf (r .state) w (t .turn .last .1 .0) in
+    let m = c .before .enum-told .given .1 in
+    let e : more z ≡ turn (frames (a .stack .now)) (stateOf (l .state) (l .table) (l .stack)) = rw (m, i .1) at (t .turn .ensures .0) in
+    (t .turn .kept .0 ∙ i .0, t .turn .kept .1 .0 ∙ i .1, t .turn .kept .1 .1 .1 .0 ∙ i .2, going-on (i .3) z (omega arith) e, ready-more r w (a .slots) _ m (t .turn .ensures .1))
 
 same-length-4 : tie.Need-same-length-4 Inv-loop μ-loop
-same-length-4 c = c .before .loop .inv .1
+same-length-4 c = c .before .loop .inv .0
+
+same-length-5 : tie.Need-same-length-5 Inv-loop μ-loop
+same-length-5 c = c .before .loop .inv .1
+
+same-length-6 : tie.Need-same-length-6 Inv-loop μ-loop
+same-length-6 c = c .before .loop .inv .2
 
 returns-2 : tie.Need-returns-2 Inv-loop μ-loop
-returns-2 c = going-out (c .before .loop .inv .2) (omega arith)
+unfolding ReadyEnd
+returns-2 c = let i = c .before .loop .inv in (going-out (i .3) (omega arith), i .4)
 
 pub uses-spec : {M : Type 1} → statement M
 uses-spec =
@@ -96,10 +110,12 @@ uses-spec =
     enum-told
     same-length
     same-length-2
+    same-length-3
     returns
     add-taken
     loop-less
     loop-again
-    same-length-3
     same-length-4
+    same-length-5
+    same-length-6
     returns-2)

@@ -1,6 +1,6 @@
--- `nodes::new_node` meets its contract: the two stores are `make`. Assumes nothing.
+-- `nodes::new_node` meets its contract: the two stores are `newNode`. Assumes nothing.
 use mathlib.Core.Path.{refl}
-use Rattle.table.specs.Nodes.{make}
+use Rattle.table.specs.Nodes.{newNode}
 use borrow.Author.Needs.{needs}
 use Rattle.nodes.proofs.new_node.Statement.{statement}
 use Rattle.nodes.proofs.new_node.Tie as tie
@@ -39,7 +39,7 @@ same-length : tie.Need-same-length
 same-length c = search needs
 
 returns : tie.Need-returns
-unfolding make
+unfolding newNode
 returns c = refl
 
 pub new-node-spec : {M : Type 1} → statement M

@@ -1,5 +1,4 @@
 -- `reader::is_text` meets its contract: it says whether there is one whole tree. Assumes nothing.
-use mathlib.Core.Path.{_≡_}
 use Rattle.reader.proofs.ReadWays.{test-long, test-broken, test-whole}
 use borrow.Author.Needs.{needs}
 use Rattle.reader.proofs.is_text.Statement.{statement}

@@ -10,19 +10,22 @@ use Rattle.stages.proofs.apply_all.Statement.{statement}
 use Rattle.stages.proofs.apply_all.Tie as tie
 
 abbrev Inv-loop : tie.InvT-loop
-Inv-loop table₀ used stack₀ out nodes count limit node₀ in-use₀ uses₀ done₀ table stack node in-use uses done = Applying nodes count limit out table₀ used stack₀ node₀ table stack node in-use uses done
+Inv-loop table₀ used stack₀ out index₀ slots nodes count limit node₀ in-use₀ uses₀ done₀ table stack index node in-use uses done =
+    Applying nodes count limit out table₀ used stack₀ node₀ slots index₀ table stack index node in-use uses done
 
 abbrev μ-loop : tie.MeasureT-loop
-μ-loop table₀ used stack₀ out nodes count limit node₀ in-use₀ uses₀ done₀ table stack node in-use uses done = count - done
+μ-loop table₀ used stack₀ out index₀ slots nodes count limit node₀ in-use₀ uses₀ done₀ table stack index node in-use uses done = count - done
 
 loop-holds : tie.Need-loop-holds Inv-loop μ-loop
-loop-holds c = applies-begin (c .before .before .before .pre .0) (c .before .before .before .pre .1) (c .before .before .before .pre .2) (omega (arith, c .before .before .before .pre .3)) (c .before .before .before .pre .4)
+loop-holds c =
+    let p = c .before .before .before .before .pre in
+    applies-begin (p .0) (p .1) (p .2) (omega (arith, p .3)) (p .4) (p .5)
 
 mul-argument : tie.Need-mul-argument Inv-loop μ-loop
-mul-argument c = omega (arith, c .before .before .before .before .before .pre .3)
+mul-argument c = omega (arith, c .before .before .before .before .before .before .pre .3)
 
 array-read-argument : tie.Need-array-read-argument Inv-loop μ-loop
-array-read-argument c = omega (arith, c .before .before .before .before .before .pre .3)
+array-read-argument c = omega (arith, c .before .before .before .before .before .before .pre .3)
 
 sum-requires : tie.Need-sum-requires Inv-loop μ-loop
 sum-requires c κs = omega (arith, c .before .loop .inv .within-limit, c .before .loop .inv .limited)
@@ -32,9 +35,8 @@ sub-left c = omega (arith, c .sum .ensures, c .before .before .loop .inv .within
 
 apply-nodes-requires : tie.Need-apply-nodes-requires Inv-loop μ-loop
 apply-nodes-requires c κs =
-    let t = c .before .before .before in
-    let i = t .before .loop .inv in
-    (i .ready .fine, i .function-in, argument-in i (t .loop-test .taken), omega (arith, i .limited))
+    let i = c .before .before .before .before .before .loop .inv in
+    (i .indexed, i .function-in, argument-in i (c .before .before .before .before .loop-test .taken), omega (arith, i .limited))
 
 enum-known-applied : tie.Need-enum-known-applied Inv-loop μ-loop
 enum-known-applied c = search needs
@@ -46,66 +48,54 @@ applied-refusal-requires : tie.Need-applied-refusal-requires Inv-loop μ-loop
 applied-refusal-requires c κs = applied-not (c .before .before .enum-told .given .1)
 
 stop-requires : tie.Need-stop-requires Inv-loop μ-loop
-stop-requires c κs =
-    let n = c .before .before .before .before .before .before .before .before .before in
-    omega (arith, n .apply-nodes .kept .0, in-table (n .before .before .before .before .before .loop .inv .ready))
+stop-requires c κs = omega (arith, c .before .before .before .before .before .before .before .before .before .before .before .apply-nodes .kept .0, in-table (c .before .before .before .before .before .before .before .before .before .before .before .before .before .before .before .before .before .loop .inv .ready))
 
 same-length : tie.Need-same-length Inv-loop μ-loop
-same-length c =
-    let e = c .before .before .before .before in
-    let n = e .before .before .before .before .before .before .before .before .before .before in
-    e .stop .kept .0 ∙ n .apply-nodes .kept .0 ∙ n .before .before .before .before .before .loop .inv .same-table
+same-length c = c .before .before .before .before .stop .kept .0 ∙ c .before .before .before .before .before .before .before .before .before .before .before .before .before .before .before .before .apply-nodes .kept .0 ∙ c .before .before .before .before .before .before .before .before .before .before .before .before .before .before .before .before .before .before .before .before .before .before .loop .inv .same-table
 
 same-length-2 : tie.Need-same-length-2 Inv-loop μ-loop
-same-length-2 c =
-    let e = c .before .before .before .before in
-    let n = e .before .before .before .before .before .before .before .before .before .before in
-    e .stop .kept .1 .1 .0 ∙ n .apply-nodes .kept .1 .1 .0 ∙ n .before .before .before .before .before .loop .inv .same-stack
+same-length-2 c = c .before .before .before .before .stop .kept .1 .1 .0 ∙ c .before .before .before .before .before .before .before .before .before .before .before .before .before .before .before .before .apply-nodes .kept .1 .1 .0 ∙ c .before .before .before .before .before .before .before .before .before .before .before .before .before .before .before .before .before .before .before .before .before .before .loop .inv .same-stack
+
+same-length-3 : tie.Need-same-length-3 Inv-loop μ-loop
+same-length-3 c = c .before .before .before .before .before .before .before .before .before .before .before .before .before .before .before .before .apply-nodes .kept .1 .1 .1 .1 .1 .1 .0 ∙ c .before .before .before .before .before .before .before .before .before .before .before .before .before .before .before .before .before .before .before .before .before .before .loop .inv .same-index
 
 returns : tie.Need-returns Inv-loop μ-loop
 returns c =
-    let e = c .before .before .before .before in
-    let n = e .before .before .before .before .before .before .before .before .before .before in
-    let k = n .before .before .before in
-    applies-stop (k .before .before .loop .inv) (k .before .loop-test .taken) (rw (k .sum .ensures) at (n .apply-nodes .ensures))
-    (e .before .applied-refusal .ensures) (e .stop .ensures _)
+    applies-stop (c .before .before .before .before .before .before .before .before .before .before .before .before .before .before .before .before .before .before .before .before .before .before .loop .inv) (c .before .before .before .before .before .before .before .before .before .before .before .before .before .before .before .before .before .before .before .before .before .loop-test .taken) (rw (c .before .before .before .before .before .before .before .before .before .before .before .before .before .before .before .before .before .before .before .before .sum .ensures) at (c .before .before .before .before .before .before .before .before .before .before .before .before .before .before .before .before .apply-nodes .ensures .0)) (c .before .before .before .before .before .applied-refusal .ensures) (c .before .before .before .before .stop .ensures _)
 
 plus-requires : tie.Need-plus-requires Inv-loop μ-loop
 plus-requires c κs =
-    let n = c .before .before .before .before .before .before .before in
-    let k = n .before .before .before in
-    let i = k .before .before .loop .inv in
-    omega (arith, applies-steps i (k .before .loop-test .taken) (rw (k .sum .ensures) at (n .apply-nodes .ensures)) (c .before .applied .given .1), i .limited)
+    let i = c .before .before .before .before .before .before .before .before .before .before .before .before .before .before .before .loop .inv in
+    omega (arith, applies-steps i (c .before .before .before .before .before .before .before .before .before .before .before .before .before .before .loop-test .taken) (rw (c .before .before .before .before .before .before .before .before .before .before .before .before .before .sum .ensures) at (c .before .before .before .before .before .before .before .before .before .apply-nodes .ensures .0)) (c .before .applied .given .1), i .limited)
 
 add-done : tie.Need-add-done Inv-loop μ-loop
-add-done c =
-    let n = c .before .before .before .before .before .before .before .before in
-    omega (arith, n .before .before .before .before .before .before .before .before .before .pre .3)
+add-done c = omega (arith, c .before .before .before .before .before .before .before .before .before .before .before .before .before .before .before .before .before .before .before .before .before .pre .3)
 
 loop-less : tie.Need-loop-less Inv-loop μ-loop
 loop-less c = omega arith
 
 loop-again : tie.Need-loop-again Inv-loop μ-loop
 loop-again c =
-    let n = c .before .before .before .before .before .before .before .before in
-    let k = n .before .before .before in
     rw (c .plus .ensures)
-    (applies-next (k .before .before .loop .inv) (k .before .loop-test .taken) (rw (k .sum .ensures) at (n .apply-nodes .ensures))
-    (c .before .before .applied .given .1) (n .apply-nodes .kept .1 .1 .0))
+    (applies-next (c .before .before .before .before .before .before .before .before .before .before .before .before .before .before .before .before .loop .inv) (c .before .before .before .before .before .before .before .before .before .before .before .before .before .before .before .loop-test .taken) (rw (c .before .before .before .before .before .before .before .before .before .before .before .before .before .before .sum .ensures) at (c .before .before .before .before .before .before .before .before .before .before .apply-nodes .ensures .0))
+    (c .before .before .applied .given .1) (c .before .before .before .before .before .before .before .before .before .before .apply-nodes .kept .1 .1 .0) (c .before .before .before .before .before .before .before .before .before .before .apply-nodes .kept .1 .1 .1 .1 .1 .1 .0) (c .before .before .before .before .before .before .before .before .before .before .apply-nodes .ensures .1))
 
 write-outcome-requires : tie.Need-write-outcome-requires Inv-loop μ-loop
 write-outcome-requires c κs =
     let i = c .before .before .before .before .loop .inv in
     (i .ready, i .function-in, omega (arith, i .within-limit, i .limited))
 
-same-length-3 : tie.Need-same-length-3 Inv-loop μ-loop
-same-length-3 c = c .before .before .before .before .before .before .write-outcome .kept .0 ∙ c .before .before .before .before .before .before .before .before .before .before .before .loop .inv .same-table
-
 same-length-4 : tie.Need-same-length-4 Inv-loop μ-loop
-same-length-4 c = c .before .before .before .before .before .before .write-outcome .kept .1 .1 .0 ∙ c .before .before .before .before .before .before .before .before .before .before .before .loop .inv .same-stack
+same-length-4 c = c .before .before .before .before .before .before .write-outcome .kept .0 ∙ c .before .before .before .before .before .before .before .before .before .before .before .loop .inv .same-table
 
 same-length-5 : tie.Need-same-length-5 Inv-loop μ-loop
-same-length-5 c = c .before .before .before .before .before .before .write-outcome .kept .1 .1 .1 .0
+same-length-5 c = c .before .before .before .before .before .before .write-outcome .kept .1 .1 .0 ∙ c .before .before .before .before .before .before .before .before .before .before .before .loop .inv .same-stack
+
+same-length-6 : tie.Need-same-length-6 Inv-loop μ-loop
+same-length-6 c = c .before .before .before .before .before .before .write-outcome .kept .1 .1 .1 .0
+
+same-length-7 : tie.Need-same-length-7 Inv-loop μ-loop
+same-length-7 c = c .before .before .before .before .before .before .before .before .before .before .before .loop .inv .same-index
 
 returns-2 : tie.Need-returns-2 Inv-loop μ-loop
 returns-2 c = applies-end (c .before .before .before .before .before .before .before .before .before .before .before .loop .inv) (c .before .before .before .before .before .before .before .before .before .before .loop-test .left) (c .before .before .before .before .before .before .write-outcome .ensures)
@@ -128,13 +118,15 @@ apply-all-spec =
     stop-requires
     same-length
     same-length-2
+    same-length-3
     returns
     plus-requires
     add-done
     loop-less
     loop-again
     write-outcome-requires
-    same-length-3
     same-length-4
     same-length-5
+    same-length-6
+    same-length-7
     returns-2)

@@ -5,24 +5,25 @@ use Rattle.packet.specs.Code.{valueAt, packetAt}
 use Rattle.packet.proofs.Parts.{part-value}
 use Rattle.endings.proofs.Ways.{made-not, translate-ready}
 use Rattle.stages.proofs.Ways.{stages-next, stages-stop}
+use Rattle.index.proofs.Ready.{made-ready}
 use borrow.Author.Needs.{needs}
 use Rattle.stages.proofs.run_stages.Statement.{statement}
 use Rattle.stages.proofs.run_stages.Tie as tie
 
 part-at-requires : tie.Need-part-at-requires
-part-at-requires c κs = search needs
+part-at-requires c κs = omega (arith, c .before .before .before .before .before .pre .0 .rule-stands)
 
 sub-translate-rule : tie.Need-sub-translate-rule
-sub-translate-rule c = rw (c .before .before .part-at .ensures) (omega (arith, c .before .before .before .before .before .before .before .pre .3))
+sub-translate-rule c = rw (c .before .before .part-at .ensures) (omega (arith, c .before .before .before .before .before .before .before .before .pre .0 .rule-stands))
 
 part-translate-rule-start : tie.Need-part-translate-rule-start
-part-translate-rule-start c = rw (c .before .before .part-at .ensures) (omega (arith, c .before .before .before .before .before .before .before .pre .3))
+part-translate-rule-start c = rw (c .before .before .part-at .ensures) (omega (arith, c .before .before .before .before .before .before .before .before .pre .0 .rule-stands))
 
 part-translate-rule-end : tie.Need-part-translate-rule-end
-part-translate-rule-end c = rw (c .before .before .part-at .ensures) (omega (arith, c .before .before .before .before .before .before .before .pre .3))
+part-translate-rule-end c = rw (c .before .before .part-at .ensures) (omega (arith, c .before .before .before .before .before .before .before .before .pre .0 .rule-stands))
 
 translate-rule-requires : tie.Need-translate-rule-requires
-translate-rule-requires c κs = (c .before .before .before .before .before .before .before .before .pre .0 .fine, c .before .before .before .before .before .before .before .before .pre .0 .stack)
+translate-rule-requires c κs = (c .before .before .before .before .before .before .before .before .before .before .pre .1, c .before .before .before .before .before .before .before .before .before .before .pre .0 .ready .stack)
 
 enum-known-made : tie.Need-enum-known-made
 enum-known-made c = search needs
@@ -37,30 +38,46 @@ stop-requires : tie.Need-stop-requires
 stop-requires c κs = search needs
 
 same-length : tie.Need-same-length
-same-length c = search needs
+same-length c = c .before .before .before .before .stop .kept .0 ∙ c .before .before .before .before .before .before .before .before .before .before .before .before .before .before .before .before .translate-rule .kept .0
 
 same-length-2 : tie.Need-same-length-2
-same-length-2 c = search needs
+same-length-2 c = c .before .before .before .before .stop .kept .1 .1 .0 ∙ c .before .before .before .before .before .before .before .before .before .before .before .before .before .before .before .before .translate-rule .kept .1 .1 .0
+
+same-length-3 : tie.Need-same-length-3
+same-length-3 c = c .before .before .before .before .before .before .before .before .before .before .before .before .before .before .before .before .translate-rule .kept .1 .1 .1 .1 .0
 
 returns : tie.Need-returns
-returns c = stages-stop (c .before .before .before .before .before .before .before .before .before .before .before .before .before .before .before .before .before .before .before .before .before .before .before .pre .0) (packetAt (c .before .before .before .before .before .before .before .before .before .before .before .before .before .before .before .before .before .before .before .before .before .before .before .args .packet .now) (c .before .before .before .before .before .before .before .before .before .before .before .before .before .before .before .before .before .before .before .before .before .before .before .args .count) (c .before .before .before .before .before .before .before .before .before .before .before .before .before .before .before .before .before .before .before .before .before .before .before .args .limit) 0) (rw (c .before .before .before .before .before .before .before .before .before .before .before .before .before .before .before .before .before .before .part-at .ensures, part-value (c .before .before .before .before .before .before .before .before .before .before .before .before .before .before .before .before .before .before .before .before .before .before .before .args .packet .now) 0) at (c .before .before .before .before .before .before .before .before .before .before .before .before .before .before .translate-rule .ensures)) (c .before .before .before .before .before .made-refusal .ensures) (c .before .before .before .before .stop .ensures _)
+returns c =
+    let a = c .before .before .before .before .before .before .before .before .before .before .before .before .before .before .before .before .before .before .before .before .before .before .before .before .before .before .before .args in
+    stages-stop (c .before .before .before .before .before .before .before .before .before .before .before .before .before .before .before .before .before .before .before .before .before .before .before .before .before .before .before .pre .0 .ready) (packetAt (a .packet .now) (a .count) (a .limit) 0)
+    (rw (c .before .before .before .before .before .before .before .before .before .before .before .before .before .before .before .before .before .before .before .before .before .part-at .ensures, part-value (a .packet .now) 0) at (c .before .before .before .before .before .before .before .before .before .before .before .before .before .before .before .before .translate-rule .ensures .0)) (c .before .before .before .before .before .made-refusal .ensures) (c .before .before .before .before .stop .ensures _)
 
 read-all-requires : tie.Need-read-all-requires
 read-all-requires c κs =
-    let r = translate-ready (c .before .before .before .before .before .before .before .before .before .before .before .before .before .before .before .before .before .before .before .pre .0) (valueAt (c .before .before .before .before .before .before .before .before .before .before .before .before .before .before .before .before .before .before .before .args .packet .now) 0) (rw (c .before .before .before .before .before .before .before .before .before .before .before .before .before .before .part-at .ensures, part-value (c .before .before .before .before .before .before .before .before .before .before .before .before .before .before .before .before .before .before .before .args .packet .now) 0) at (c .before .before .before .before .before .before .before .before .before .before .translate-rule .ensures)) (c .before .before .before .before .made .given .1) (c .before .before .before .before .before .before .before .before .before .before .translate-rule .kept .1 .1 .0) in
-    (r .0, r .1, c .before .before .before .before .before .before .before .before .before .before .before .before .before .before .before .before .before .before .before .pre .1, c .before .before .before .before .before .before .before .before .before .before .before .before .before .before .before .before .before .before .before .pre .2, rw (c .before .before .before .before .before .before .before .before .before .before .before .before .before .before .part-at .ensures) (c .before .before .before .before .before .before .before .before .before .before .before .before .before .before .before .before .before .before .before .pre .4))
-
-same-length-3 : tie.Need-same-length-3
-same-length-3 c = search needs
+    let a = c .before .before .before .before .before .before .before .before .before .before .before .before .before .before .before .before .before .before .before .before .before .before .before .before .args in
+    let p = c .before .before .before .before .before .before .before .before .before .before .before .before .before .before .before .before .before .before .before .before .before .before .before .before .pre .0 in
+    let r = translate-ready (p .ready) (valueAt (a .packet .now) 0)
+    (rw (c .before .before .before .before .before .before .before .before .before .before .before .before .before .before .before .before .before .before .part-at .ensures, part-value (a .packet .now) 0) at (c .before .before .before .before .before .before .before .before .before .before .before .before .before .translate-rule .ensures .0)) (c .before .before .before .before .before .made .given .1) (c .before .before .before .before .before .before .before .before .before .before .before .before .before .translate-rule .kept .1 .1 .0) in
+    (r .0, r .1, p .limited, p .few, rw (c .before .before .before .before .before .before .before .before .before .before .before .before .before .before .before .before .before .before .part-at .ensures) (p .stand), made-ready (c .before .before .before .before .before .before .before .before .before .before .before .before .before .translate-rule .ensures .1) (c .before .before .before .before .before .made .given .1))
 
 same-length-4 : tie.Need-same-length-4
-same-length-4 c = search needs
+same-length-4 c = c .before .before .before .before .before .before .before .before .read-all .kept .0 ∙ c .before .before .before .before .before .before .before .before .before .before .before .before .before .before .before .before .before .before .before .before .before .before .translate-rule .kept .0
 
 same-length-5 : tie.Need-same-length-5
-same-length-5 c = search needs
+same-length-5 c = c .before .before .before .before .before .before .before .before .read-all .kept .1 .1 .0 ∙ c .before .before .before .before .before .before .before .before .before .before .before .before .before .before .before .before .before .before .before .before .before .before .translate-rule .kept .1 .1 .0
+
+same-length-6 : tie.Need-same-length-6
+same-length-6 c = c .before .before .before .before .before .before .before .before .read-all .kept .1 .1 .1 .0
+
+same-length-7 : tie.Need-same-length-7
+same-length-7 c = c .before .before .before .before .before .before .before .before .read-all .kept .1 .1 .1 .1 .1 .1 .1 .0 ∙ c .before .before .before .before .before .before .before .before .before .before .before .before .before .before .before .before .before .before .before .before .before .before .translate-rule .kept .1 .1 .1 .1 .0
 
 returns-2 : tie.Need-returns-2
-returns-2 c = stages-next (c .before .before .before .before .before .before .before .before .before .before .before .before .before .before .before .before .before .before .before .before .before .before .before .before .before .before .pre .0) (packetAt (c .before .before .before .before .before .before .before .before .before .before .before .before .before .before .before .before .before .before .before .before .before .before .before .before .before .before .args .packet .now) (c .before .before .before .before .before .before .before .before .before .before .before .before .before .before .before .before .before .before .before .before .before .before .before .before .before .before .args .count) (c .before .before .before .before .before .before .before .before .before .before .before .before .before .before .before .before .before .before .before .before .before .before .before .before .before .before .args .limit) 0) (rw (c .before .before .before .before .before .before .before .before .before .before .before .before .before .before .before .before .before .before .before .before .before .part-at .ensures, part-value (c .before .before .before .before .before .before .before .before .before .before .before .before .before .before .before .before .before .before .before .before .before .before .before .before .before .before .args .packet .now) 0) at (c .before .before .before .before .before .before .before .before .before .before .before .before .before .before .before .before .before .translate-rule .ensures)) (c .before .before .before .before .before .before .before .before .before .before .before .made .given .1) (rw (c .before .before .before .before .before .before .before .before .before .before .before .before .before .before .before .before .before .before .before .before .before .part-at .ensures) at (c .before .before .before .before .before .before .read-all .ensures))
+returns-2 c =
+    let a = c .before .before .before .before .before .before .before .before .before .before .before .before .before .before .before .before .before .before .before .before .before .before .before .before .before .before .before .before .before .before .before .before .before .args in
+    stages-next (c .before .before .before .before .before .before .before .before .before .before .before .before .before .before .before .before .before .before .before .before .before .before .before .before .before .before .before .before .before .before .before .before .before .pre .0 .ready) (packetAt (a .packet .now) (a .count) (a .limit) 0)
+    (rw (c .before .before .before .before .before .before .before .before .before .before .before .before .before .before .before .before .before .before .before .before .before .before .before .before .before .before .before .part-at .ensures, part-value (a .packet .now) 0) at (c .before .before .before .before .before .before .before .before .before .before .before .before .before .before .before .before .before .before .before .before .before .before .translate-rule .ensures .0)) (c .before .before .before .before .before .before .before .before .before .before .before .before .before .before .made .given .1)
+    (rw (c .before .before .before .before .before .before .before .before .before .before .before .before .before .before .before .before .before .before .before .before .before .before .before .before .before .before .before .part-at .ensures) at (c .before .before .before .before .before .before .before .before .read-all .ensures))
 
 pub run-stages-spec : {M : Type 1} → statement M
 run-stages-spec =
@@ -77,9 +94,11 @@ run-stages-spec =
     stop-requires
     same-length
     same-length-2
+    same-length-3
     returns
     read-all-requires
-    same-length-3
     same-length-4
     same-length-5
+    same-length-6
+    same-length-7
     returns-2)

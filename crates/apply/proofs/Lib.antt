@@ -1,0 +1,2 @@
+-- The laws that the proofs of Apply's functions cite.
+pub mod Entered

@@ -1,0 +1,2 @@
+-- What the stages ask. Assumes nothing: these are definitions.
+pub mod Asked

@@ -1,0 +1,2 @@
+-- The laws that the proofs of Read's functions cite.
+pub mod Ways
