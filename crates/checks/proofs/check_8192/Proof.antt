@@ -1,4 +1,7 @@
 -- `checks::check_8192` meets its contract: its array is an empty index for the table. Assumes nothing.
+use Prim.Native.Nat.{ℕ}
+use mathlib.Core.Path.{sym}
+use lib.ListN.{length-replicate}
 use native.Mathlib.Omega.{arith}
 use Rattle.index.proofs.Ready.{empty-index}
 use Rattle.checks.proofs.Entry.{refused-unfit, may-fill, by-nodes}
@@ -13,7 +16,7 @@ returns : tie.Need-returns
 returns c = refused-unfit _ _ _ _ (c .before .fits2 .ensures) (c .if1 .taken)
 
 slice-aggregate-fill : tie.Need-slice-aggregate-fill
-slice-aggregate-fill c = search needs
+slice-aggregate-fill c = sym (length-replicate {A = ℕ} 24576 0)
 
 fill-requires : tie.Need-fill-requires
 fill-requires c κs =
