@@ -58,7 +58,7 @@ enum {
     LAZVORN_STEPS = 3,   /* the uses of the five rules */
     LAZVORN_DIGITS = 4,  /* the digits written to out */
     LAZVORN_LEAF = 5,    /* the uses of leaf; from here on of lazvorn_apply and lazvorn_run alone */
-    LAZVORN_STEM = 6,    /* the uses of stem; with those of leaf, at least the nodes made */
+    LAZVORN_STEM = 6,    /* the uses of stem; with those of leaf, at least the nodes that applying made */
     LAZVORN_DROP = 7,    /* the uses of drop */
     LAZVORN_SPREAD = 8,  /* the uses of spread */
     LAZVORN_TRIAGE = 9   /* the uses of triage */
@@ -139,7 +139,7 @@ void lazvorn_apply(
     size_t answer[10]); /* the ten numbers */
 
 /*
- * Labels a rule with a tree: at most eight new nodes. Gives node and used. Refusals 1, 2, 3, 8. On
+ * Labels a rule with a tree: at most seven new nodes. Gives node and used. Refusals 1, 2, 3, 8. On
  * any argument the labelled tree gives the rule's tree in six more steps; the label is not run.
  */
 void lazvorn_label(
@@ -198,7 +198,7 @@ void lazvorn_run(
  * arguments and step limit are passed over. Gives used and digits. Refusals 1, 4, 5, 6, 8, 9, 10.
  */
 void lazvorn_label_packet(
-    uint32_t *table,       /* the table's words: the nodes of rule and label, at most eight more */
+    uint32_t *table,       /* the table's words: the nodes of rule and label, at most seven more */
     size_t table_len,      /* how many words */
     uint32_t *stack,       /* the stack's words */
     size_t stack_len,      /* how many words */

@@ -20,7 +20,7 @@ triage-order = by-triage by-leaf by-stem
 pub spread-order : Apply (fork (stem (stem leaf)) leaf) (stem leaf) (fork (stem leaf) (fork leaf (stem leaf))) (counts 1 2 0 1 0)
 spread-order = by-spread by-leaf by-stem by-stem
 
--- "212101021010; on 0 it gives 10 in 10 steps, 5 new nodes" (Depot examples), at most since [8]
+-- "212101021010; on 0 it gives 10 in 10 steps, 5 new nodes" (Depot examples), which [8] makes an upper bound
 pub doubled : Apply (fork (stem (fork (stem leaf) (stem leaf))) (fork (stem leaf) (stem leaf))) leaf (stem leaf) (counts 3 2 2 3 0)
 doubled = by-spread (by-spread by-stem by-leaf by-drop) (by-spread by-stem by-leaf by-drop) by-leaf
 

@@ -1,7 +1,7 @@
 -- A row of the table of worked examples: an input, and the line that the definitions give for it. Assumes nothing: these are definitions.
 use Prim.Native.Nat.{ℕ, _+_, _-_, _*_}
 use mathlib.Core.List.{List, [], _∷_, _++_, map}
-use lib.ListN.{length, replicate, take}
+use lib.ListN.{length, replicate, take, getD}
 use Rattle.table.specs.Nodes.{treeAt}
 use Rattle.table.specs.Outcome.{Outcome}
 use Rattle.table.specs.Refusal.{Numbers, number}
@@ -85,7 +85,7 @@ unfoldable pub runLine : Outcome Ran → Numbers → Line
 runLine o n = record { refusal = n .refusal; steps = n .steps; nodes = n .used; digits = take (n .digits) (o .out) }
 
 unfoldable pub line : Input → Line
-line (reads l) = readAll (l ∷ []) (replicate 80 0) 0 (λ ns w u. applyLine [] 0 0 0 w u (u - 1) 0)
+line (reads l) = readAll (l ∷ []) (replicate 80 0) 0 (λ ns w u. applyLine [] 0 0 0 w u (getD ns 0 0) 0)
 line (applies p ls limit free frames) =
     let o = place (replicate ((taken p ls + free) * 2) 0) p in
     afterMade o (o .answer) (λ w u v. readAll ls w u (λ ns w′ u′. applyLine ns limit frames u′ w′ u′ v 0))

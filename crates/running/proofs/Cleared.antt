@@ -1,4 +1,4 @@
--- How many nodes a refused Run cleared is one number, which the packet and the lent lengths decide. Assumes nothing.
+-- How many nodes a refused Run cleared is one number. Assumes nothing.
 use Prim.Native.Nat.{ℕ, _*_, _≤_, _<_}
 use mathlib.Core.Path.{_≡_, refl, sym, ap, ap₂, _∙_}
 use mathlib.Core.List.{List, _∷_}

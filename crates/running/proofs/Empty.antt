@@ -28,8 +28,8 @@ none-applied at-end = (refl, refl)
 none-read : {s : List ℕ} {z y : Table} {ns : List ℕ} → ReadsHad s z [] y ns → (y ≡ z) × (ns ≡ [])
 none-read all-read = (refl, refl)
 
--- "then none to eight of tag 2, an argument's text" (The packet): with none of them, the text is that of the translated rule, in no step. "Rule 02 03 00
--- without arguments prints 0 0 5 21010." (Depot examples); the line is 0 0 3 21010 since [8], by which "rows and lines that count nodes are worked out afresh".
+-- "then none to eight of tag 2, an argument's text" (The packet): with none of them, the text is that of the translated rule, in no step. Of "Rule 02 03 00
+-- without arguments" (Depot examples) the line is 0 0 3 21010, by "rows and lines that count nodes are worked out afresh" ([8]).
 pub run-empty : (w s o l : List ℕ) (j u n : ℕ) (k : Uses) (p : Packet) (t : Term) → packet l ≡ some p → p .arguments ≡ [] → rule (p .rule) ≡ some t
     → run w s o l .answer ≡ Text j u n k → Bare w s o l t j u n k
 unfolding total endTable

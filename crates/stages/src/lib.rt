@@ -1,7 +1,7 @@
 // The stages of Run on a packet that passed the checks: Translate, Read of each argument, Apply in order, Write. Each stage is a function that ends
 // in the next one, as in the definition (the crate `running`), and takes its inner answer apart: a refusal clears what was made since Run's entry
 // (the crate `endings`).
-// The table is sound throughout and keeps its index, so each stage is the inner operation, and no node is looked at again. specs/ and the crates
+// The table is sound throughout and keeps its index, so each stage is the inner operation, and no node is checked again. specs/ and the crates
 // `endings` and `index` say what the stages ask.
 use applying::Applied;
 use calculus::Uses;
@@ -73,24 +73,15 @@ fn apply_all(
     while done < count {
         let argument = nodes[done];
         let left = limit - counts::sum(uses);
-        let applied = machine::apply_nodes(
-            table,
-            in_use,
-            stack,
-            node,
-            argument,
-            left,
-            index,
-            slots,
-        );
+        let answer = machine::apply_nodes(table, in_use, stack, node, argument, left, index, slots);
         let Applied::Node {
             node: given,
             used: used_then,
             steps: _,
             uses: taken,
-        } = applied
+        } = answer
         else {
-            return endings::stop(table, in_use, stack, applied_refusal(applied));
+            return endings::stop(table, in_use, stack, applied_refusal(answer));
         };
         node = given;
         in_use = used_then;

@@ -6,11 +6,12 @@ use mathlib.Core.List.{List, [], _∷_, _++_, append-assoc, append-nil}
 use mathlib.Core.Option.{Option, none, some}
 use mathlib.Core.Logic.{_↔_}
 use lib.Dec.{eqb}
+use native.Mathlib.Omega.{arith}
 use Rattle.calculus.specs.Tree.{Tree, leaf, stem, fork}
-use Rattle.table.specs.Nodes.{Table, Placed, Making, got, full, Sound, newNode, make, andThen, lay}
+use Rattle.table.specs.Nodes.{Table, Placed, Making, got, full, Sound, find, newNode, make, andThen, lay}
 use Rattle.table.specs.Claims.{Extends, Places, Makes}
 use Rattle.table.specs.Claims.Makes.{found, made}
-use Rattle.table.proofs.Words.{zero-one, finds}
+use Rattle.table.proofs.Words.{zero-one, finds, wrote-first, wrote-second}
 use Rattle.table.proofs.Trees.{extends-refl, extends-trans}
 use Rattle.table.proofs.Making.{has, stays, make-case, leaf-of, stem-of, fork-of}
 use Rattle.ternary.specs.Text.{text, takeLeaf, takeStem, takeFork, takeDigit, pending, treeOf}
@@ -151,14 +152,20 @@ before-digit c (awaits y ms) e = (y, (ms, refl))
 before-digit c (no-place w) e = zero-one (cc)
 before-digit c no-text e = zero-one (cc)
 
--- a node that is wanted was there, or has the next number
+-- a node that is wanted was there, or none had its words and it has the next number
 make-numbered : (z : Table) (a b : ℕ) {m : Placed} → make z a b ≡ got m → Numbered z (m .node) (m .table)
 unfolding newNode
 make-numbered z a b {m} e = go (make-case z a b) e
   where
     go : {x : Making} → Makes z a b x → x ≡ got m → Numbered z (m .node) (m .table)
     go (found {i = i} f) d = let c : record { table = z; node = i } ≡ m = cc in rw (← c) (was-there (finds (z .words) (z .used) a b i f .inside) refl)
-    go (made f h) d = let c : newNode z a b ≡ m = cc in rw (← c) (the-next refl refl)
+    go (made f h) d =
+        let c : newNode z a b ≡ m = cc in
+        rw (← c)
+        (the-next
+        (ap₂ (find (z .words) (z .used)) (wrote-first (z .words) (z .used) a b (omega arith)) (wrote-second (z .words) (z .used) a b (omega arith)) ∙ f)
+        refl
+        refl)
     go (Makes.no-place f h) d = zero-one (cc)
 
 module _ {z y : Table} {n : ℕ} {ns : List ℕ} where

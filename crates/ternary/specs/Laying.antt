@@ -3,9 +3,10 @@ use Prim.Native.Nat.{ℕ, _+_, _<_}
 use mathlib.Core.Path.{_≡_}
 use mathlib.Core.Bool.{cond}
 use mathlib.Core.List.{List, [], _∷_}
+use mathlib.Core.Option.{none}
 use lib.Dec.{eqb}
 use Rattle.calculus.specs.Tree.{Tree}
-use Rattle.table.specs.Nodes.{Table, Making, got, full, make}
+use Rattle.table.specs.Nodes.{Table, Making, got, full, first, second, find, make}
 use Rattle.table.specs.Claims.{Has}
 
 -- What comes of the digits taken so far: the table with the nodes pending, the first of them that of the digit taken last; or the table in which a node
@@ -44,10 +45,11 @@ unfoldable pub layDigits : Table → List ℕ → Laying
 layDigits t [] = awaits t []
 layDigits t (c ∷ l) = layDigit c (layDigits t l)
 
--- "a found one takes no new number" ([8]): the node that is wanted in the table t was there, and t is left as it was; or it has the next number.
+-- "a found one takes no new number" ([8]): the node that is wanted in the table t was there, and t is left as it was; or no used node had its words, and it
+-- has the next number.
 pub data Numbered (t : Table) (node : ℕ) (left : Table) : Type 0 where
   was-there : node < t .used → left ≡ t → Numbered t node left
-  the-next : node ≡ t .used → left .used ≡ t .used + 1 → Numbered t node left
+  the-next : find (t .words) (t .used) (first (left .words) node) (second (left .words) node) ≡ none → node ≡ t .used → left .used ≡ t .used + 1 → Numbered t node left
 
 -- the nodes are in use and have these trees, one by one
 pub data HaveTrees (t : Table) : List ℕ → List Tree → Type 0 where

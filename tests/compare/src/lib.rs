@@ -16,7 +16,7 @@ pub const PAPERS: second::Papers = second::Papers {
     shared: true,
 };
 
-/// "Eight nodes are needed" to label a rule ([4]); since [8] fewer of them are new, the leaf at least being there.
+/// "Eight nodes are needed" to label a rule ([4]); fewer of them are new, the leaf at least being there ([8]).
 pub const LABEL_NODES: usize = 8;
 
 /// What the second evaluator says of a packet's labelled rule, as the program `label_packet` prints it.

@@ -341,7 +341,7 @@ pub fn apply(
     })
 }
 
-/// Labels the rule at node `rule` with the tree of node `label`: at most eight new nodes. On any argument
+/// Labels the rule at node `rule` with the tree of node `label`: at most seven new nodes. On any argument
 /// the labelled tree gives the rule's tree in six more steps; the label is not run.
 pub fn label(table: &mut [u32], used: usize, rule: usize, label: usize) -> Numbers {
     numbers(|answer| unsafe {

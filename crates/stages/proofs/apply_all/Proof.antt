@@ -38,8 +38,8 @@ apply-nodes-requires c κs =
     let i = c .before .before .before .before .before .loop .inv in
     (i .indexed, i .function-in, argument-in i (c .before .before .before .before .loop-test .taken), omega (arith, i .limited))
 
-enum-known-applied : tie.Need-enum-known-applied Inv-loop μ-loop
-enum-known-applied c = search needs
+enum-known-answer : tie.Need-enum-known-answer Inv-loop μ-loop
+enum-known-answer c = search needs
 
 enum-told : tie.Need-enum-told Inv-loop μ-loop
 enum-told c = search needs
@@ -66,7 +66,7 @@ returns c =
 plus-requires : tie.Need-plus-requires Inv-loop μ-loop
 plus-requires c κs =
     let i = c .before .before .before .before .before .before .before .before .before .before .before .before .before .before .before .loop .inv in
-    omega (arith, applies-steps i (c .before .before .before .before .before .before .before .before .before .before .before .before .before .before .loop-test .taken) (rw (c .before .before .before .before .before .before .before .before .before .before .before .before .before .sum .ensures) at (c .before .before .before .before .before .before .before .before .before .apply-nodes .ensures .0)) (c .before .applied .given .1), i .limited)
+    omega (arith, applies-steps i (c .before .before .before .before .before .before .before .before .before .before .before .before .before .before .loop-test .taken) (rw (c .before .before .before .before .before .before .before .before .before .before .before .before .before .sum .ensures) at (c .before .before .before .before .before .before .before .before .before .apply-nodes .ensures .0)) (c .before .answer .given .1), i .limited)
 
 add-done : tie.Need-add-done Inv-loop μ-loop
 add-done c = omega (arith, c .before .before .before .before .before .before .before .before .before .before .before .before .before .before .before .before .before .before .before .before .before .pre .3)
@@ -78,7 +78,7 @@ loop-again : tie.Need-loop-again Inv-loop μ-loop
 loop-again c =
     rw (c .plus .ensures)
     (applies-next (c .before .before .before .before .before .before .before .before .before .before .before .before .before .before .before .before .loop .inv) (c .before .before .before .before .before .before .before .before .before .before .before .before .before .before .before .loop-test .taken) (rw (c .before .before .before .before .before .before .before .before .before .before .before .before .before .before .sum .ensures) at (c .before .before .before .before .before .before .before .before .before .before .apply-nodes .ensures .0))
-    (c .before .before .applied .given .1) (c .before .before .before .before .before .before .before .before .before .before .apply-nodes .kept .1 .1 .0) (c .before .before .before .before .before .before .before .before .before .before .apply-nodes .kept .1 .1 .1 .1 .1 .1 .0) (c .before .before .before .before .before .before .before .before .before .before .apply-nodes .ensures .1))
+    (c .before .before .answer .given .1) (c .before .before .before .before .before .before .before .before .before .before .apply-nodes .kept .1 .1 .0) (c .before .before .before .before .before .before .before .before .before .before .apply-nodes .kept .1 .1 .1 .1 .1 .1 .0) (c .before .before .before .before .before .before .before .before .before .before .apply-nodes .ensures .1))
 
 write-outcome-requires : tie.Need-write-outcome-requires Inv-loop μ-loop
 write-outcome-requires c κs =
@@ -112,7 +112,7 @@ apply-all-spec =
     sum-requires
     sub-left
     apply-nodes-requires
-    enum-known-applied
+    enum-known-answer
     enum-told
     applied-refusal-requires
     stop-requires
