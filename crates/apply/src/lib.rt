@@ -22,7 +22,7 @@ fn apply_checked(
     function: usize,
     argument: usize,
     limit: usize,
-    index: &mut [u32],
+    index: &mut [u16],
     slots: usize,
 ) -> Applied
     requires { ⌜ Ready (now table) used slots (now index) × (atEntry (leb limit 1000000) (now table) used (now stack) ≡ none) ⌝ }
@@ -49,7 +49,7 @@ fn apply_64(
     requires { ⌜ length (now table) ≤ 128 ⌝ }
     ensures { λ r. ⌜ whole r (now (table .exit)) (now (stack .exit)) ≡ apply (now (table .entry)) used (now (stack .entry)) function argument limit ⌝ }
 {
-    let mut index = [0u32; 192];
+    let mut index = [0u16; 192];
     let checked = checks::check_in(limit <= 1000000, table, used, stack, &mut index, 128);
     if let Checked::Refused(refusal) = checked {
         return Applied::Refused(refusal);
@@ -78,7 +78,7 @@ fn apply_1024(
     requires { ⌜ length (now table) ≤ 2048 ⌝ }
     ensures { λ r. ⌜ whole r (now (table .exit)) (now (stack .exit)) ≡ apply (now (table .entry)) used (now (stack .entry)) function argument limit ⌝ }
 {
-    let mut index = [0u32; 3072];
+    let mut index = [0u16; 3072];
     let checked = checks::check_in(limit <= 1000000, table, used, stack, &mut index, 2048);
     if let Checked::Refused(refusal) = checked {
         return Applied::Refused(refusal);
@@ -107,7 +107,7 @@ fn apply_8192(
     requires { ⌜ length (now table) ≤ 16384 ⌝ }
     ensures { λ r. ⌜ whole r (now (table .exit)) (now (stack .exit)) ≡ apply (now (table .entry)) used (now (stack .entry)) function argument limit ⌝ }
 {
-    let mut index = [0u32; 24576];
+    let mut index = [0u16; 24576];
     let checked = checks::check_in(limit <= 1000000, table, used, stack, &mut index, 16384);
     if let Checked::Refused(refusal) = checked {
         return Applied::Refused(refusal);
@@ -136,7 +136,7 @@ fn apply_65536(
     requires { ⌜ length (now table) ≤ 131072 ⌝ }
     ensures { λ r. ⌜ whole r (now (table .exit)) (now (stack .exit)) ≡ apply (now (table .entry)) used (now (stack .entry)) function argument limit ⌝ }
 {
-    let mut index = [0u32; 196608];
+    let mut index = [0u16; 196608];
     let checked = checks::check_in(limit <= 1000000, table, used, stack, &mut index, 131072);
     if let Checked::Refused(refusal) = checked {
         return Applied::Refused(refusal);

@@ -1,5 +1,5 @@
 -- The laws of the index, and those that its callers cite.
-pub mod Broken
+pub mod Words
 pub mod Indexing
-pub mod Filling
+pub mod Making
 pub mod Ready

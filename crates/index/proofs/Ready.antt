@@ -30,7 +30,7 @@ unfolding sound
 ready-none h x =
     record {
       fine = record { short = h; within = omega arith; unbroken = refl };
-      indexed = record { each = λ i l. absurd (omega arith); inside = λ p. omega (arith, x .none-yet p); low = λ p n. absurd (n (x .none-yet p)) };
+      indexed = record { each = λ i o l. absurd (omega arith); inside = λ p n. absurd (n (x .none-yet p)); low = λ p n. absurd (n (x .none-yet p)) };
       room = x .room;
       some-slots = x .some-slots;
     }

@@ -11,18 +11,18 @@ use Rattle.table.specs.Nodes.{capacity, first, second, Sound}
 unfoldable pub home : ℕ → ℕ → ℕ → ℕ
 home a b s = bitAnd (a * 2122696415 + b * 735350203) (s - 1)
 
--- node i stands in the index ix, and no entry from its home up to there is empty
+-- Node i stands in the index ix, and no entry from its home up to there is empty. The leaf, node 0, does not: an entry 0 is empty.
 pub record Reached (w : List ℕ) (s : ℕ) (ix : List ℕ) (i : ℕ) : Type 0 where
   pub place : ℕ
   pub from : home (first w i) (second w i) s ≤ place
-  pub holds : getD ix place 0 ≡ i + 1
+  pub holds : getD ix place 0 ≡ i
   pub run : (k : ℕ) → home (first w i) (second w i) s ≤ k → k < place → getD ix k 0 ≡ 0 → ⊥
 
--- Each of the first u nodes of w stands in the index ix of s slots. An entry that is not empty is at a home or right after another, so none lies beyond s
--- slots and one entry for each node.
+-- Each of the first u nodes of w but the leaf stands in the index ix of s slots. An entry that is not empty is at a home or right after another, so none
+-- lies beyond s slots and one entry for each node.
 pub record Indexed (w : List ℕ) (u s : ℕ) (ix : List ℕ) : Type 0 where
-  pub each : (i : ℕ) → i < u → Reached w s ix i
-  pub inside : (p : ℕ) → getD ix p 0 ≤ u
+  pub each : (i : ℕ) → 0 < i → i < u → Reached w s ix i
+  pub inside : (p : ℕ) → (getD ix p 0 ≡ 0 → ⊥) → getD ix p 0 < u
   pub low : (p : ℕ) → (getD ix p 0 ≡ 0 → ⊥) → p + 1 < s + u
 
 -- a sound table and its index, which has room for every node that may be made

@@ -1,14 +1,13 @@
 // A hashed index of a table's used nodes, in memory that the operation owns: it finds the node with given words without going through the table. An
-// entry is 0 if it is empty, else a node's number plus 1. Nodes are wanted in one place, here, and a table is checked for broken and equal nodes while
-// its index is filled.
+// entry is 0 if it is empty, else a node's number. The leaf is node 0 of every table in use and needs no entry; so a number fits 16 bits, and an index
+// takes half the memory of one that has an entry for it. Nodes are wanted in one place, here.
 ghost use mathlib.Core.Path.{_≡_};
-ghost use mathlib.Core.Bool.{true};
 ghost use Prim.Native.Nat.{_+_, _*_, _≤_, _<_};
 ghost use lib.ListN.{length};
-ghost use Rattle.table.specs.Nodes.{capacity, broken, hasWords, sound, make};
+ghost use Rattle.table.specs.Nodes.{capacity, hasWords, make};
 ghost use Rattle.table.specs.Outcome.{whole, settled};
 ghost use Rattle.table.specs.Claims.{Unbroken};
-ghost use Rattle.index.specs.Index.{home, Empty, Ready};
+ghost use Rattle.index.specs.Index.{home, Ready};
 ghost use Rattle.index.specs.Code.{Sought, gotBy, ReadyGot};
 use table::Made;
 use table::Refusal;
@@ -46,19 +45,24 @@ fn has_words(table: &[u32], i: usize, a: usize, b: usize) -> bool
 }
 
 // The node with the words a and b, or the empty entry that is its place. Goes over blocks of eight entries, and over the entries of each.
-fn search(table: &[u32], used: usize, index: &[u32], slots: usize, a: usize, b: usize) -> Found
-    requires { ⌜ Ready (now table) used slots (now index) × (a < 4294967296) × (b < 4294967296) ⌝ }
+pub fn search(table: &[u32], used: usize, index: &[u16], slots: usize, a: usize, b: usize) -> Found
+    requires { ⌜ Ready (now table) used slots (now index) × (a < 4294967296) × (b < 4294967296) × (a ≡ 0 → b ≡ 0) ⌝ }
     ensures { λ r. ⌜ Sought (now (table .entry)) used slots (now (index .entry)) a b r ⌝ }
 {
+    if a == 0 {
+        if used == 0 {
+            return Found::Place(0);
+        }
+        return Found::Node(0);
+    }
     let mut at = home(a, b, slots);
     'blocks: loop {
         let end = at + 8;
         while at < end {
-            let e = nodes::word(index, at);
-            if e == 0 {
+            let n = index[at] as usize;
+            if n == 0 {
                 break 'blocks Found::Place(at);
             }
-            let n = e - 1;
             if has_words(table, n, a, b) {
                 break 'blocks Found::Node(n);
             }
@@ -71,7 +75,7 @@ fn search(table: &[u32], used: usize, index: &[u32], slots: usize, a: usize, b: 
 pub fn make(
     table: &mut [u32],
     used: usize,
-    index: &mut [u32],
+    index: &mut [u16],
     slots: usize,
     a: usize,
     b: usize,
@@ -83,8 +87,7 @@ pub fn make(
         Found::Node(n) => Got::Node { node: n, used },
         Found::Place(p) => {
             if used < table.len() / 2 {
-                let next = used + 1;
-                index[p] = next as u32;
+                index[p] = used as u16;
                 let made = nodes::new_node(table, used, a, b);
                 Got::Node {
                     node: made.node,
@@ -95,43 +98,6 @@ pub fn make(
             }
         }
     }
-}
-
-// Whether node i with the branch words a and b is broken. The last test is a = 0 < b, since b is a word; no test of a sound node depends on
-// whether it is a leaf, so that a processor foresees all three.
-fn is_broken(i: usize, a: usize, b: usize) -> bool
-    requires { ⌜ (a < 4294967296) × (b < 4294967296) ⌝ }
-    ensures { λ r. ⌜ r ≡ broken i a b ⌝ }
-{
-    if i < a {
-        return true;
-    }
-    if i < b {
-        return true;
-    }
-    a * 4294967296 < b
-}
-
-// Enters the used nodes into an empty index. Whether none of them is broken and no two are equal.
-pub fn fill(table: &[u32], used: usize, index: &mut [u32], slots: usize) -> bool
-    requires { ⌜ Empty (now table) slots (now index) × (length (now table) ≤ 131072) × (used ≤ capacity (now table)) ⌝ }
-    ensures { λ r. ⌜ (r ≡ sound (now (table .entry)) used) × (r ≡ true → Ready (now (table .entry)) used slots (now (index .exit))) ⌝ }
-{
-    let mut i = 0;
-    while i < used {
-        let a = nodes::word(table, i * 2);
-        let b = nodes::word(table, i * 2 + 1);
-        if is_broken(i, a, b) {
-            return false;
-        }
-        let Found::Place(p) = search(table, i, index, slots, a, b) else {
-            return false;
-        };
-        let next = i + 1;
-        index[p] = next as u32;
-        i = next;
-    }
-    true
 }
 
 // What an operation that makes nodes answers, by the last node that it wanted: where that has no place, the words of the nodes made since `used` were in

@@ -16,7 +16,7 @@ fn make_constant(
     table: &mut [u32],
     used: usize,
     leaf: usize,
-    index: &mut [u32],
+    index: &mut [u16],
     slots: usize,
 ) -> Got
     requires { ⌜ Ready (now table) used slots (now index) × (leaf < used) ⌝ }
@@ -38,7 +38,7 @@ fn make_spread(
     used: usize,
     p: usize,
     y: usize,
-    index: &mut [u32],
+    index: &mut [u16],
     slots: usize,
 ) -> Got
     requires { ⌜ Ready (now table) used slots (now index) × (p < used) × (y < used) ⌝ }
@@ -60,7 +60,7 @@ fn make_rule(
     used: usize,
     leaf: usize,
     rule: usize,
-    index: &mut [u32],
+    index: &mut [u16],
     slots: usize,
 ) -> Got
     requires { ⌜ Ready (now table) used slots (now index) × (leaf < used) × (rule < used) ⌝ }
@@ -83,7 +83,7 @@ fn make_whole(
     leaf: usize,
     label: usize,
     y: usize,
-    index: &mut [u32],
+    index: &mut [u16],
     slots: usize,
 ) -> Got
     requires { ⌜ Ready (now table) used slots (now index) × (leaf < used) × (label < used) × (y < used) ⌝ }
@@ -105,7 +105,7 @@ fn make_nodes(
     used: usize,
     rule: usize,
     label: usize,
-    index: &mut [u32],
+    index: &mut [u16],
     slots: usize,
 ) -> Got
     requires { ⌜ Ready (now table) used slots (now index) × (rule < used) × (label < used) ⌝ }
@@ -134,7 +134,7 @@ pub fn label_rule(
     used: usize,
     rule: usize,
     label: usize,
-    index: &mut [u32],
+    index: &mut [u16],
     slots: usize,
 ) -> Made
     requires { ⌜ Ready (now table) used slots (now index) × (rule < used) × (label < used) ⌝ }

@@ -19,7 +19,7 @@ fn label_checked(
     used: usize,
     rule: usize,
     label: usize,
-    index: &mut [u32],
+    index: &mut [u16],
     slots: usize,
 ) -> Made
     requires { ⌜ Ready (now table) used slots (now index) × (atEntry true (now table) used [] ≡ none) ⌝ }
@@ -40,7 +40,7 @@ fn label_64(table: &mut [u32], used: usize, rule: usize, label: usize) -> Made
     ensures { λ r. ⌜ whole r (now (table .exit)) [] ≡ labelling.label (now (table .entry)) used rule label ⌝ }
 {
     let no_stack: [u32; 0] = [];
-    let mut index = [0u32; 192];
+    let mut index = [0u16; 192];
     let checked = checks::check_in(true, table, used, &no_stack, &mut index, 128);
     if let Checked::Refused(e) = checked {
         return Made::Refused(e);
@@ -54,7 +54,7 @@ fn label_256(table: &mut [u32], used: usize, rule: usize, label: usize) -> Made
     ensures { λ r. ⌜ whole r (now (table .exit)) [] ≡ labelling.label (now (table .entry)) used rule label ⌝ }
 {
     let no_stack: [u32; 0] = [];
-    let mut index = [0u32; 768];
+    let mut index = [0u16; 768];
     let checked = checks::check_in(true, table, used, &no_stack, &mut index, 512);
     if let Checked::Refused(e) = checked {
         return Made::Refused(e);
@@ -68,7 +68,7 @@ fn label_1024(table: &mut [u32], used: usize, rule: usize, label: usize) -> Made
     ensures { λ r. ⌜ whole r (now (table .exit)) [] ≡ labelling.label (now (table .entry)) used rule label ⌝ }
 {
     let no_stack: [u32; 0] = [];
-    let mut index = [0u32; 3072];
+    let mut index = [0u16; 3072];
     let checked = checks::check_in(true, table, used, &no_stack, &mut index, 2048);
     if let Checked::Refused(e) = checked {
         return Made::Refused(e);
@@ -82,7 +82,7 @@ fn label_8192(table: &mut [u32], used: usize, rule: usize, label: usize) -> Made
     ensures { λ r. ⌜ whole r (now (table .exit)) [] ≡ labelling.label (now (table .entry)) used rule label ⌝ }
 {
     let no_stack: [u32; 0] = [];
-    let mut index = [0u32; 24576];
+    let mut index = [0u16; 24576];
     let checked = checks::check_in(true, table, used, &no_stack, &mut index, 16384);
     if let Checked::Refused(e) = checked {
         return Made::Refused(e);
@@ -96,7 +96,7 @@ fn label_65536(table: &mut [u32], used: usize, rule: usize, label: usize) -> Mad
     ensures { λ r. ⌜ whole r (now (table .exit)) [] ≡ labelling.label (now (table .entry)) used rule label ⌝ }
 {
     let no_stack: [u32; 0] = [];
-    let mut index = [0u32; 196608];
+    let mut index = [0u16; 196608];
     let checked = checks::check_in(true, table, used, &no_stack, &mut index, 131072);
     if let Checked::Refused(e) = checked {
         return Made::Refused(e);

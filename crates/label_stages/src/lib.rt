@@ -22,7 +22,7 @@ fn write_labelled(
     out: &mut [u8],
     rule: usize,
     label: usize,
-    index: &mut [u32],
+    index: &mut [u16],
     slots: usize,
 ) -> Ran
     requires { ⌜ Ready (now table) used (now stack) (now out) × (rule < used) × (label < used) × indexing.Ready (now table) used slots (now index) ⌝ }
@@ -56,7 +56,7 @@ fn read_label(
     packet: &[u8],
     at: usize,
     rule: usize,
-    index: &mut [u32],
+    index: &mut [u16],
     slots: usize,
 ) -> Ran
     requires { ⌜ Ready (now table) used (now stack) (now out) × (rule < used) × (endAt (now packet) at ≤ length (now packet)) × indexing.Ready (now table) used slots (now index) ⌝ }
@@ -84,7 +84,7 @@ pub fn label_stages(
     out: &mut [u8],
     packet: &[u8],
     at: usize,
-    index: &mut [u32],
+    index: &mut [u16],
     slots: usize,
 ) -> Ran
     requires { ⌜ Passed (now table) (now stack) (now out) (now packet) at × indexing.Ready (now table) 0 slots (now index) ⌝ }

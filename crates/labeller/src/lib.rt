@@ -37,7 +37,7 @@ fn label_64(
         return Ran::Refused(refusal);
     }
     let at = packet.len() - size;
-    let mut index = [0u32; 192];
+    let mut index = [0u16; 192];
     label_stages::label_stages(table, stack, out, packet, at, &mut index, 128)
 }
 
@@ -60,7 +60,7 @@ fn label_256(
         return Ran::Refused(refusal);
     }
     let at = packet.len() - size;
-    let mut index = [0u32; 768];
+    let mut index = [0u16; 768];
     label_stages::label_stages(table, stack, out, packet, at, &mut index, 512)
 }
 
@@ -83,7 +83,7 @@ fn label_1024(
         return Ran::Refused(refusal);
     }
     let at = packet.len() - size;
-    let mut index = [0u32; 3072];
+    let mut index = [0u16; 3072];
     label_stages::label_stages(table, stack, out, packet, at, &mut index, 2048)
 }
 
@@ -106,7 +106,7 @@ fn label_8192(
         return Ran::Refused(refusal);
     }
     let at = packet.len() - size;
-    let mut index = [0u32; 24576];
+    let mut index = [0u16; 24576];
     label_stages::label_stages(table, stack, out, packet, at, &mut index, 16384)
 }
 
@@ -129,7 +129,7 @@ fn label_65536(
         return Ran::Refused(refusal);
     }
     let at = packet.len() - size;
-    let mut index = [0u32; 196608];
+    let mut index = [0u16; 196608];
     label_stages::label_stages(table, stack, out, packet, at, &mut index, 131072)
 }
 

@@ -26,7 +26,7 @@ fn uses(
     stack: &mut [u32],
     begun: Machine,
     budget: usize,
-    index: &mut [u32],
+    index: &mut [u16],
     slots: usize,
 ) -> Turned
     requires { ⌜ Good (frames (now stack)) (stateOf begun (now table) (now stack)) × (steps (usesOf begun) + budget ≤ 1000000) × Ready (now table) (begun .used) slots (now index) ⌝ }
@@ -95,7 +95,7 @@ pub fn apply_nodes(
     function: usize,
     argument: usize,
     limit: usize,
-    index: &mut [u32],
+    index: &mut [u16],
     slots: usize,
 ) -> Applied
     requires { ⌜ Ready (now table) used slots (now index) × (function < used) × (argument < used) × (limit ≤ 1000000) ⌝ }

@@ -17,7 +17,7 @@ fn read_64(table: &mut [u32], used: usize, stack: &mut [u32], text: &[u8]) -> Ma
     requires { ⌜ length (now table) ≤ 128 ⌝ }
     ensures { λ r. ⌜ whole r (now (table .exit)) (now (stack .exit)) ≡ read (now (table .entry)) used (now (stack .entry)) (now (text .entry)) ⌝ }
 {
-    let mut index = [0u32; 192];
+    let mut index = [0u16; 192];
     let checked = checks::check_in(true, table, used, stack, &mut index, 128);
     if let Checked::Refused(refusal) = checked {
         return Made::Refused(refusal);
@@ -30,7 +30,7 @@ fn read_1024(table: &mut [u32], used: usize, stack: &mut [u32], text: &[u8]) -> 
     requires { ⌜ length (now table) ≤ 2048 ⌝ }
     ensures { λ r. ⌜ whole r (now (table .exit)) (now (stack .exit)) ≡ read (now (table .entry)) used (now (stack .entry)) (now (text .entry)) ⌝ }
 {
-    let mut index = [0u32; 3072];
+    let mut index = [0u16; 3072];
     let checked = checks::check_in(true, table, used, stack, &mut index, 2048);
     if let Checked::Refused(refusal) = checked {
         return Made::Refused(refusal);
@@ -43,7 +43,7 @@ fn read_8192(table: &mut [u32], used: usize, stack: &mut [u32], text: &[u8]) -> 
     requires { ⌜ length (now table) ≤ 16384 ⌝ }
     ensures { λ r. ⌜ whole r (now (table .exit)) (now (stack .exit)) ≡ read (now (table .entry)) used (now (stack .entry)) (now (text .entry)) ⌝ }
 {
-    let mut index = [0u32; 24576];
+    let mut index = [0u16; 24576];
     let checked = checks::check_in(true, table, used, stack, &mut index, 16384);
     if let Checked::Refused(refusal) = checked {
         return Made::Refused(refusal);
@@ -56,7 +56,7 @@ fn read_65536(table: &mut [u32], used: usize, stack: &mut [u32], text: &[u8]) ->
     requires { ⌜ length (now table) ≤ 131072 ⌝ }
     ensures { λ r. ⌜ whole r (now (table .exit)) (now (stack .exit)) ≡ read (now (table .entry)) used (now (stack .entry)) (now (text .entry)) ⌝ }
 {
-    let mut index = [0u32; 196608];
+    let mut index = [0u16; 196608];
     let checked = checks::check_in(true, table, used, stack, &mut index, 131072);
     if let Checked::Refused(refusal) = checked {
         return Made::Refused(refusal);

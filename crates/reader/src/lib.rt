@@ -37,7 +37,7 @@ fn lay_digit(
     stack: &[u32],
     held: usize,
     c: u8,
-    index: &mut [u32],
+    index: &mut [u16],
     slots: usize,
 ) -> Got
     requires { ⌜ Ready (now table) used slots (now index) × TakesDigit used (now stack) held c ⌝ }
@@ -61,7 +61,7 @@ fn lay_text(
     used: usize,
     stack: &mut [u32],
     text: &[u8],
-    index: &mut [u32],
+    index: &mut [u16],
     slots: usize,
 ) -> Got
     requires { ⌜ Ready (now table) used slots (now index) × LaysText (now stack) (now text) ⌝ }
@@ -96,7 +96,7 @@ pub fn read_text(
     used: usize,
     stack: &mut [u32],
     text: &[u8],
-    index: &mut [u32],
+    index: &mut [u16],
     slots: usize,
 ) -> Made
     requires { ⌜ Ready (now table) used slots (now index) ⌝ }

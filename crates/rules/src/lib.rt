@@ -60,7 +60,7 @@ fn grow(
     uses: Uses,
     a: usize,
     b: usize,
-    index: &mut [u32],
+    index: &mut [u16],
     slots: usize,
 ) -> Turned
     requires { ⌜ Ready (now table) (state .used) slots (now index) × (state .held * 3 ≤ length (now stack)) × Unbroken (state .used) a b ⌝ }
@@ -81,7 +81,7 @@ pub fn turn(
     table: &mut [u32],
     stack: &mut [u32],
     state: Machine,
-    index: &mut [u32],
+    index: &mut [u16],
     slots: usize,
 ) -> Turned
     requires { ⌜ Good (frames (now stack)) (stateOf state (now table) (now stack)) × (steps (usesOf state) < 1000000) × Ready (now table) (state .used) slots (now index) ⌝ }

@@ -35,7 +35,7 @@ fn run_64(
     if let Checked::Refused(refusal) = checked {
         return Ran::Refused(refusal);
     }
-    let mut index = [0u32; 192];
+    let mut index = [0u16; 192];
     stages::run_stages(table, stack, out, packet, count, limit, &mut index, 128)
 }
 
@@ -58,7 +58,7 @@ fn run_256(
     if let Checked::Refused(refusal) = checked {
         return Ran::Refused(refusal);
     }
-    let mut index = [0u32; 768];
+    let mut index = [0u16; 768];
     stages::run_stages(table, stack, out, packet, count, limit, &mut index, 512)
 }
 
@@ -81,7 +81,7 @@ fn run_1024(
     if let Checked::Refused(refusal) = checked {
         return Ran::Refused(refusal);
     }
-    let mut index = [0u32; 3072];
+    let mut index = [0u16; 3072];
     stages::run_stages(table, stack, out, packet, count, limit, &mut index, 2048)
 }
 
@@ -104,7 +104,7 @@ fn run_8192(
     if let Checked::Refused(refusal) = checked {
         return Ran::Refused(refusal);
     }
-    let mut index = [0u32; 24576];
+    let mut index = [0u16; 24576];
     stages::run_stages(table, stack, out, packet, count, limit, &mut index, 16384)
 }
 
@@ -127,7 +127,7 @@ fn run_65536(
     if let Checked::Refused(refusal) = checked {
         return Ran::Refused(refusal);
     }
-    let mut index = [0u32; 196608];
+    let mut index = [0u16; 196608];
     stages::run_stages(table, stack, out, packet, count, limit, &mut index, 131072)
 }
 

@@ -10,7 +10,7 @@ pub fn same(table: &[u32], used: usize, a: usize, b: usize) -> Compared
     ensures { λ r. ⌜ r ≡ same (now (table .entry)) used a b ⌝ }
 {
     let none: [u32; 0] = [];
-    let checked = checks::check(true, table, used, &none);
+    let checked = entry_check::check(true, table, used, &none);
     if let Checked::Refused(e) = checked {
         return Compared::Refused(e);
     }

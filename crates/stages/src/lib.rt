@@ -50,7 +50,7 @@ fn apply_all(
     out: &mut [u8],
     nodes: [usize; 8],
     work: Applications,
-    index: &mut [u32],
+    index: &mut [u16],
     slots: usize,
 ) -> Ran
     requires { ⌜ Ready (now table) used (now stack) (now out) × (work .rule < used) × (work .limit ≤ 1000000) × (work .count ≤ 8) × NodesIn used nodes (work .count)
@@ -100,7 +100,7 @@ fn read_all(
     packet: &[u8],
     from: usize,
     work: Applications,
-    index: &mut [u32],
+    index: &mut [u16],
     slots: usize,
 ) -> Ran
     requires { ⌜ Ready (now table) used (now stack) (now out) × (work .rule < used) × (work .limit ≤ 1000000) × (work .count ≤ 8) × Stand (now packet) from (work .count)
@@ -142,7 +142,7 @@ pub fn run_stages(
     packet: &[u8],
     count: usize,
     limit: usize,
-    index: &mut [u32],
+    index: &mut [u16],
     slots: usize,
 ) -> Ran
     requires { ⌜ Passed (now table) (now stack) (now out) (now packet) count limit × indexing.Ready (now table) 0 slots (now index) ⌝ }

@@ -29,7 +29,7 @@ fn lay(
     p: usize,
     table: &mut [u32],
     used: usize,
-    index: &mut [u32],
+    index: &mut [u16],
     slots: usize,
 ) -> Got
     requires { ⌜ LayAt (now stack) p × Ready (now table) used slots (now index) ⌝ }
@@ -67,7 +67,7 @@ fn place(
     stack: &mut [u32],
     bytes: &[u8],
     nodes: usize,
-    index: &mut [u32],
+    index: &mut [u16],
     slots: usize,
 ) -> Made
     requires { ⌜ Ready (now table) used slots (now index) × PlaceAt (now stack) (now bytes) nodes ⌝ }
@@ -85,7 +85,7 @@ pub fn translate_rule(
     used: usize,
     stack: &mut [u32],
     bytes: &[u8],
-    index: &mut [u32],
+    index: &mut [u16],
     slots: usize,
 ) -> Made
     requires { ⌜ Ready (now table) used slots (now index) × (length (now stack) ≤ 65536) ⌝ }

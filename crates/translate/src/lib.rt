@@ -18,7 +18,7 @@ fn translate_64(table: &mut [u32], used: usize, stack: &mut [u32], bytes: &[u8])
     ensures { λ r. ⌜ whole r (now (table .exit)) (now (stack .exit))
         ≡ translate (now (table .entry)) used (now (stack .entry)) (now (bytes .entry)) ⌝ }
 {
-    let mut index = [0u32; 192];
+    let mut index = [0u16; 192];
     let checked = checks::check_in(true, table, used, stack, &mut index, 128);
     if let Checked::Refused(refusal) = checked {
         return Made::Refused(refusal);
@@ -32,7 +32,7 @@ fn translate_1024(table: &mut [u32], used: usize, stack: &mut [u32], bytes: &[u8
     ensures { λ r. ⌜ whole r (now (table .exit)) (now (stack .exit))
         ≡ translate (now (table .entry)) used (now (stack .entry)) (now (bytes .entry)) ⌝ }
 {
-    let mut index = [0u32; 3072];
+    let mut index = [0u16; 3072];
     let checked = checks::check_in(true, table, used, stack, &mut index, 2048);
     if let Checked::Refused(refusal) = checked {
         return Made::Refused(refusal);
@@ -46,7 +46,7 @@ fn translate_8192(table: &mut [u32], used: usize, stack: &mut [u32], bytes: &[u8
     ensures { λ r. ⌜ whole r (now (table .exit)) (now (stack .exit))
         ≡ translate (now (table .entry)) used (now (stack .entry)) (now (bytes .entry)) ⌝ }
 {
-    let mut index = [0u32; 24576];
+    let mut index = [0u16; 24576];
     let checked = checks::check_in(true, table, used, stack, &mut index, 16384);
     if let Checked::Refused(refusal) = checked {
         return Made::Refused(refusal);
@@ -60,7 +60,7 @@ fn translate_65536(table: &mut [u32], used: usize, stack: &mut [u32], bytes: &[u
     ensures { λ r. ⌜ whole r (now (table .exit)) (now (stack .exit))
         ≡ translate (now (table .entry)) used (now (stack .entry)) (now (bytes .entry)) ⌝ }
 {
-    let mut index = [0u32; 196608];
+    let mut index = [0u16; 196608];
     let checked = checks::check_in(true, table, used, stack, &mut index, 131072);
     if let Checked::Refused(refusal) = checked {
         return Made::Refused(refusal);

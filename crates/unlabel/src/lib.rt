@@ -127,7 +127,7 @@ pub fn unlabel(table: &[u32], used: usize, node: usize) -> Unlabelled
     ensures { λ r. ⌜ r ≡ unlabel (now (table .entry)) used node ⌝ }
 {
     let none: [u32; 0] = [];
-    let checked = checks::check(true, table, used, &none);
+    let checked = entry_check::check(true, table, used, &none);
     if let Checked::Refused(e) = checked {
         return Unlabelled::Refused(e);
     }

@@ -206,7 +206,7 @@ pub fn write(table: &[u32], used: usize, stack: &mut [u32], node: usize, out: &m
     ensures { λ r. ⌜ wholeOut r (now (table .entry)) (now (stack .exit)) (now (out .exit)) ≡ write (now (table .entry)) used (now (stack .entry)) node (now (out .entry)) ⌝ }
 {
     let short = out.len() <= 65535;
-    let checked = checks::check(short, table, used, stack);
+    let checked = entry_check::check(short, table, used, stack);
     if let Checked::Refused(e) = checked {
         return Written::Refused(e);
     }

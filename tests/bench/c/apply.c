@@ -5,8 +5,8 @@
  * CHECKED is defined: then it makes every check that the paper asks for. Where SPLIT is defined leaf
  * and stem are two branches.
  *
- * The index is of the engine's kind: open addressing without wrap-around, an entry 0 if it is empty,
- * else a node's number and one. Its length goes by the table's.
+ * The index is of the engine's kind: open addressing without wrap-around, an entry of 16 bits, 0 if it
+ * is empty, else a node's number. The leaf, node 0, needs none. Its length goes by the table's.
  */
 #include <stddef.h>
 #include <stdint.h>
@@ -23,11 +23,11 @@ static inline size_t home(uint32_t a, uint32_t b, size_t slots) {
 }
 
 /* The place of the entry with these words, or the empty one where the search ends. */
-static inline size_t place(const uint32_t *table, const uint32_t *index, size_t slots, uint32_t a,
+static inline size_t place(const uint32_t *table, const uint16_t *index, size_t slots, uint32_t a,
                            uint32_t b) {
     size_t at = home(a, b, slots);
     while (index[at] != 0) {
-        const uint32_t *node = table + 2 * (size_t)(index[at] - 1);
+        const uint32_t *node = table + 2 * (size_t)index[at];
         if (node[0] == a && node[1] == b)
             break;
         at++;
@@ -35,12 +35,13 @@ static inline size_t place(const uint32_t *table, const uint32_t *index, size_t 
     return at;
 }
 
-/* Enters the used nodes; 0 where CHECKED is defined and one is broken or equal to one before it. */
-static inline int enter(const uint32_t *table, size_t used, uint32_t *index, size_t slots) {
+/* Enters the used nodes; 0 where CHECKED is defined and one is broken or equal to one before it. Only
+ * node 0 may be a leaf: to enter it writes the 0 that is there. */
+static inline int enter(const uint32_t *table, size_t used, uint16_t *index, size_t slots) {
     for (size_t i = 0; i < used; i++) {
         const uint32_t a = table[2 * i], b = table[2 * i + 1];
 #ifdef CHECKED
-        if (a > i || b > i || (a == 0 && b != 0))
+        if (a > i || b > i || (a == 0 && i != 0))
             return 0;
 #endif
         const size_t at = place(table, index, slots, a, b);
@@ -48,7 +49,7 @@ static inline int enter(const uint32_t *table, size_t used, uint32_t *index, siz
         if (index[at] != 0)
             return 0;
 #endif
-        index[at] = (uint32_t)i + 1;
+        index[at] = (uint16_t)i;
     }
     return 1;
 }
@@ -59,7 +60,7 @@ static inline int enter(const uint32_t *table, size_t used, uint32_t *index, siz
         const uint32_t x = (uint32_t)(first), y = (uint32_t)(second); \
         const size_t at = place(table, index, slots, x, y);       \
         if (index[at] != 0) {                                     \
-            v = index[at] - 1;                                    \
+            v = index[at];                                        \
         } else {                                                  \
             if (made == nodes) {                                  \
                 refusal = 8;                                      \
@@ -67,8 +68,8 @@ static inline int enter(const uint32_t *table, size_t used, uint32_t *index, siz
             }                                                     \
             table[2 * made] = x;                                  \
             table[2 * made + 1] = y;                              \
+            index[at] = (uint16_t)made;                           \
             v = made++;                                           \
-            index[at] = (uint32_t)made;                           \
         }                                                         \
     }
 
@@ -84,7 +85,7 @@ void APPLY(uint32_t *table, size_t table_len, size_t used, uint32_t *stack, size
         refused = 1;
 #endif
     const size_t slots = 2 * class_of(nodes);
-    uint32_t index[slots + slots / 2];
+    uint16_t index[slots + slots / 2];
     memset(index, 0, sizeof index);
     if (refused == 0 && !enter(table, used, index, slots))
         refused = 2;

@@ -1,5 +1,5 @@
 -- `index::has_words` meets its contract. Assumes nothing.
-use Rattle.index.proofs.Broken.{words-then, words-else}
+use Rattle.index.proofs.Words.{words-then, words-else}
 use borrow.Author.Needs.{needs}
 use Rattle.index.proofs.has_words.Statement.{statement}
 use Rattle.index.proofs.has_words.Tie as tie

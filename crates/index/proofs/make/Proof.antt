@@ -1,7 +1,7 @@
 -- `index::make` meets its contract: what the search says leads to each of its three answers. Assumes nothing.
 use Prim.Native.Nat.{_<_}
 use lib.ListN.{length}
-use Rattle.index.proofs.Filling.{place-in, got-found, got-new, got-full}
+use Rattle.index.proofs.Making.{place-in, got-found, got-new, got-full}
 use borrow.Author.Needs.{needs}
 use Rattle.index.proofs.make.Statement.{statement}
 use Rattle.index.proofs.make.Tie as tie
@@ -14,9 +14,6 @@ enum-known-n c = search needs
 
 enum-known-p : tie.Need-enum-known-p
 enum-known-p c = search needs
-
-add-next : tie.Need-add-next
-add-next c = search needs
 
 cast-index : tie.Need-cast-index
 cast-index c = search needs
@@ -81,7 +78,6 @@ make-spec =
     search-requires
     enum-known-n
     enum-known-p
-    add-next
     cast-index
     mul-index
     slice-write-index

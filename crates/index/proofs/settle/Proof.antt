@@ -1,5 +1,5 @@
 -- `index::settle` meets its contract. Assumes nothing.
-use Rattle.index.proofs.Filling.{settled-node, settled-full}
+use Rattle.index.proofs.Making.{settled-node, settled-full}
 use borrow.Author.Needs.{needs}
 use Rattle.index.proofs.settle.Statement.{statement}
 use Rattle.index.proofs.settle.Tie as tie

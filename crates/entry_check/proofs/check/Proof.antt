@@ -1,9 +1,9 @@
--- `checks::check` meets its contract: 1, and the table's length. Assumes nothing.
+-- `entry_check::check` meets its contract: 1, and the table's length. Assumes nothing.
 use borrow.Author.Tests.{not-true, not-false}
 use Rattle.checks.proofs.Entry.{too-long, not-within, long-stack}
 use borrow.Author.Needs.{needs}
-use Rattle.checks.proofs.check.Statement.{statement}
-use Rattle.checks.proofs.check.Tie as tie
+use Rattle.entry_check.proofs.check.Statement.{statement}
+use Rattle.entry_check.proofs.check.Tie as tie
 
 returns : tie.Need-returns
 returns c = too-long _ _ _ _ (c .if1 .taken)

@@ -2,11 +2,10 @@
 use Prim.Native.Nat.{ℕ, _*_, _≤_, _<_}
 use mathlib.Core.Path.{_≡_, refl}
 use mathlib.Core.Bool.{Bool, true, false, not, _&&_, _||_}
-use mathlib.Core.List.{List}
 use native.Mathlib.Omega.{arith}
 use lib.Dec.{ltb, eqb}
-use borrow.Author.Tests.{eqb-true, eqb-false, eq-eqb, ne-eqb, lt-ltb, le-ltb}
-use Rattle.table.specs.Nodes.{first, second, broken, hasWords}
+use borrow.Author.Tests.{eqb-true, eqb-false, ne-eqb, lt-ltb, le-ltb}
+use Rattle.table.specs.Nodes.{broken}
 
 pub broken-first : (i a b : ℕ) → i < a → true ≡ broken i a b
 unfolding broken
@@ -32,12 +31,3 @@ broken-gap i a b h k l = rw (le-ltb i a h, le-ltb i b k) (go (eqb a 0) refl (eqb
     go false p z q =
         let n : (a ≡ 0 → ⊥) = eqb-false a 0 p in
         le-ltb (a * 4294967296) b (omega arith)
-
-module _ (w : List ℕ) (i a b x : ℕ) (p : x ≡ first w i) where
-  pub words-then : (y : ℕ) → y ≡ second w i → x ≡ a → eqb y b ≡ hasWords w i a b
-  unfolding hasWords
-  words-then y q e = rw (← p, ← q, eq-eqb x a e)
-
-  pub words-else : (x ≡ a → ⊥) → false ≡ hasWords w i a b
-  unfolding hasWords
-  words-else n = rw (← p, ne-eqb x a n)

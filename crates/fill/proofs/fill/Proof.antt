@@ -1,14 +1,16 @@
--- `index::fill` meets its contract. The loop keeps: the nodes below i are sound and in the index. Assumes nothing.
+-- `fill::fill` meets its contract. The loop keeps: the nodes below i are sound and in the index. Assumes nothing.
 use Prim.Native.Nat.{ℕ, _-_, _≤_, _<_}
 use mathlib.Core.Path.{_≡_, refl, sym, _∙_, subst}
 use native.Mathlib.Omega.{arith}
 use lib.ListN.{length, length-set}
 use borrow.Author.Needs.{needs}
+use Rattle.table.proofs.Words.{unbroken}
 use Rattle.index.specs.Index.{Ready}
 use Rattle.index.proofs.Ready.{ready-none}
-use Rattle.index.proofs.Filling.{place-in, ready-next, filled-broken, filled-equal}
-use Rattle.index.proofs.fill.Statement.{statement}
-use Rattle.index.proofs.fill.Tie as tie
+use Rattle.index.proofs.Making.{place-in, ready-next}
+use Rattle.fill.proofs.Filled.{filled-broken, filled-equal}
+use Rattle.fill.proofs.fill.Statement.{statement}
+use Rattle.fill.proofs.fill.Tie as tie
 
 abbrev Inv-loop : tie.InvT-loop
 Inv-loop table used index₀ slots i₀ index i = (i ≤ used) × Ready table i slots index × (length index ≡ length index₀)
@@ -47,7 +49,10 @@ returns c =
     filled-broken (a .table .now) (q .loop .i) (a .used) (a .slots) (q .loop .index) _ _ (omega arith) (c .before .before .before .word .ensures .0) (c .before .before .word2 .ensures .0) (sym (c .if1 .taken) ∙ c .before .is-broken .ensures)
 
 search-requires : tie.Need-search-requires Inv-loop μ-loop
-search-requires c κs = (c .before .before .before .before .before .before .loop .inv .1, c .before .before .before .before .word .ensures .1, c .before .before .before .word2 .ensures .1)
+search-requires c κs =
+    let l = c .before .before .before .before .before .before .loop in
+    let o = unbroken (l .i) _ _ (sym (c .before .before .is-broken .ensures) ∙ c .before .if1 .left) in
+    (l .inv .1, c .before .before .before .before .word .ensures .1, c .before .before .before .word2 .ensures .1, o .no-gap)
 
 enum-known-p : tie.Need-enum-known-p Inv-loop μ-loop
 enum-known-p c = search needs
@@ -63,9 +68,6 @@ returns-2 c =
     let q = c .before .before .before .before .before .before .before .before .before in
     let a = q .before .before .before .args in
     filled-equal (a .table .now) (q .loop .i) (a .used) (a .slots) (q .loop .index) _ _ (omega arith) (c .before .before .before .before .before .before .before .word .ensures .0) (c .before .before .before .before .before .before .word2 .ensures .0) _ _ (c .before .before .search .ensures) (c .enum-told .given .1)
-
-add-next : tie.Need-add-next Inv-loop μ-loop
-add-next c = omega arith
 
 cast-index : tie.Need-cast-index Inv-loop μ-loop
 cast-index c = omega arith
@@ -83,6 +85,9 @@ slice-write-index c =
     let q = c .before .before .before .before .before .before .before .before .before .before in
     let a = q .before .before .before .args in
     place-in (a .table .now) (q .loop .i) (a .slots) (q .loop .index) _ _ _ _ (q .loop .inv .1) (c .before .before .before .search .ensures) (c .before .p .given .1)
+
+add-i : tie.Need-add-i Inv-loop μ-loop
+add-i c = omega arith
 
 loop-less : tie.Need-loop-less Inv-loop μ-loop
 loop-less c = omega arith
@@ -126,10 +131,10 @@ fill-spec =
     enum-told
     same-length-2
     returns-2
-    add-next
     cast-index
     mul-index
     slice-write-index
+    add-i
     loop-less
     loop-again
     same-length-3

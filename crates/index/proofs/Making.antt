@@ -1,4 +1,4 @@
--- Laws of the index with one node more, and of what `make`, `fill` and `settle` answer. Assumes nothing.
+-- Laws of the index with one node more, and of what `make` and `settle` answer. Assumes nothing.
 use Prim.Native.Nat.{ℕ, zero, suc, _+_, _*_, _/_, _≤_, _<_}
 use mathlib.Core.Path.{_≡_, refl, sym, ap, _∙_}
 use mathlib.Core.Bool.{Bool, true, false, not, _&&_}
@@ -26,47 +26,6 @@ use Rattle.index.specs.declared.Got.{Got}
 use Rattle.index.specs.declared.Got.the-variants.{Node, Full}
 use Rattle.index.proofs.Indexing.{indexed-more, node-sought, none-sought, place-sought}
 
--- a table in which a node is not sound stays so
-pub unsound-stays : (w : List ℕ) (u i : ℕ) → i ≤ u → sound w i ≡ false → sound w u ≡ false
-unfolding sound
-unsound-stays w zero i h e = let q : i ≡ 0 = omega arith in ap (sound w) (sym q) ∙ e
-unsound-stays w (suc k) i h e = go (eqb i (suc k)) refl (λ l. unsound-stays w k i l e)
-  where
-    and-false : (x y z : Bool) → z ≡ false → (x && (y && z)) ≡ false
-    and-false true true z f = f
-    and-false true false z f = refl
-    and-false false y z f = refl
-
-    go : (z : Bool) → eqb i (suc k) ≡ z → (i ≤ k → sound w k ≡ false) → sound w (suc k) ≡ false
-    go true z r = ap (sound w) (sym (eqb-true i (suc k) z)) ∙ e
-    go false z r =
-        let n : (i ≡ suc k → ⊥) = eqb-false i (suc k) z in
-        and-false (not (broken k (first w k) (second w k))) (isNone (find w k (first w k) (second w k))) (sound w k) (r (omega arith))
-
-module _ (w : List ℕ) (u : ℕ) where
-  broken-more : broken u (first w u) (second w u) ≡ true → sound w (u + 1) ≡ false
-  unfolding sound
-  broken-more e = rw (add-one u, e)
-
-  equal-more : {n : ℕ} → find w u (first w u) (second w u) ≡ some n → sound w (u + 1) ≡ false
-  unfolding sound isNone
-  equal-more e = rw (add-one u, e) (go (not (broken u (first w u) (second w u))))
-    where
-      go : (x : Bool) → (x && (false && sound w u)) ≡ false
-      go true = refl
-      go false = refl
-
--- What `fill` says of a table before all its nodes are entered.
-module _ (w : List ℕ) (u v s : ℕ) (ix : List ℕ) (a b : ℕ) (l : u < v) (f : a ≡ first w u) (g : b ≡ second w u) where
-  no-more : sound w (u + 1) ≡ false → (false ≡ sound w v) × (false ≡ true → Ready w v s ix)
-  no-more e = (sym (unsound-stays w v (u + 1) (omega arith) e), λ q. told-apart q refl)
-
-  pub filled-broken : true ≡ broken u a b → (false ≡ sound w v) × (false ≡ true → Ready w v s ix)
-  filled-broken e = no-more (broken-more w u (rw (f, g) at (sym e)))
-
-  pub filled-equal : (n : ℕ) (r : Found) → Sought w u s ix a b r → r ≡ found.Node n → (false ≡ sound w v) × (false ≡ true → Ready w v s ix)
-  filled-equal n r t e = no-more (equal-more w u (rw (f, g) at (node-sought w u s ix a b n r t e)))
-
 module _ (w : List ℕ) (u s : ℕ) (ix : List ℕ) (a b p : ℕ) (r : Found) (x : Ready w u s ix) (t : Sought w u s ix a b r) (e : r ≡ found.Place p) where
   pub place-in : p < length ix
   place-in = let v = place-sought w u s ix a b p r t e in omega (arith, v .below, x .room, x .fine .within)
@@ -74,9 +33,9 @@ module _ (w : List ℕ) (u s : ℕ) (ix : List ℕ) (a b p : ℕ) (r : Found) (x
   -- z is sound and has the nodes of w and one more, with the words a and b
   pub ready-more : (z : List ℕ) → Sound (record { words = z; used = u + 1 }) → length z ≡ length w
       → ((i : ℕ) → i < u → first z i ≡ first w i) → ((i : ℕ) → i < u → second z i ≡ second w i) → first z u ≡ a → second z u ≡ b
-      → Ready z (u + 1) s (set ix p (u + 1))
+      → Ready z (u + 1) s (set ix p u)
   ready-more z y l f g fa gb =
-      let n : length (set ix p (u + 1)) ≡ length ix = length-set ix p (u + 1) in
+      let n : length (set ix p u) ≡ length ix = length-set ix p u in
       record {
         fine = y;
         indexed = indexed-more w z u s ix a b p (x .indexed) (place-sought w u s ix a b p r t e) place-in f g fa gb;
@@ -85,7 +44,7 @@ module _ (w : List ℕ) (u s : ℕ) (ix : List ℕ) (a b p : ℕ) (r : Found) (x
       }
 
   -- the next node of the same table is entered
-  pub ready-next : u < capacity w → a ≡ first w u → b ≡ second w u → false ≡ broken u a b → Ready w (u + 1) s (set ix p (u + 1))
+  pub ready-next : u < capacity w → a ≡ first w u → b ≡ second w u → false ≡ broken u a b → Ready w (u + 1) s (set ix p u)
   ready-next h f g d =
       ready-more w
       (record {
@@ -108,7 +67,7 @@ module _ (w : List ℕ) (u s : ℕ) (ix : List ℕ) (a b p : ℕ) (r : Found) (x
       (ap (λ (n : ℕ). full (record { words = w; used = n })) q ∙ sym (make-full (record { words = w; used = u }) a b (none-sought w u s ix a b p r t e) h), tt)
 
   pub got-new : Unbroken u a b → (m : NewNode) (z : List ℕ) → u < capacity w → placedBy m z ≡ newNode (record { words = w; used = u }) a b
-      → (gotBy (Node (m .node) (m .used)) z ≡ make (record { words = w; used = u }) a b) × ReadyGot (Node (m .node) (m .used)) z s (set ix p (u + 1))
+      → (gotBy (Node (m .node) (m .used)) z ≡ make (record { words = w; used = u }) a b) × ReadyGot (Node (m .node) (m .used)) z s (set ix p u)
   unfolding gotBy ReadyGot newNode
   got-new o m z h q =
       let k = make-new (record { words = w; used = u }) a b (none-sought w u s ix a b p r t e) h in

@@ -1,8 +1,8 @@
--- `index::is_broken` meets its contract. Assumes nothing.
+-- `fill::is_broken` meets its contract. Assumes nothing.
 use native.Mathlib.Omega.{arith}
-use Rattle.index.proofs.Broken.{broken-first, broken-second, broken-gap}
-use Rattle.index.proofs.is_broken.Statement.{statement}
-use Rattle.index.proofs.is_broken.Tie as tie
+use Rattle.fill.proofs.Broken.{broken-first, broken-second, broken-gap}
+use Rattle.fill.proofs.is_broken.Statement.{statement}
+use Rattle.fill.proofs.is_broken.Tie as tie
 
 returns : tie.Need-returns
 returns c = broken-first _ _ _ (c .if1 .taken)
