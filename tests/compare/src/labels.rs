@@ -2,7 +2,7 @@
 //! at the borders of the room that each stage needs.
 
 use crate::runs::{kept, line, second_room, with_few_frames};
-use crate::{difference, hexadecimal, Counts, Noise};
+use crate::{add, difference, hexadecimal, Counts, Noise};
 use compare::packets::{self, Case};
 use compare::random::Random;
 use compare::{answer_of, labelled_line, PAPERS};
@@ -38,6 +38,12 @@ pub struct Compared {
 }
 
 impl Compared {
+    pub fn add(&mut self, other: &Self) {
+        add(&mut self.counts, &other.counts);
+        add(&mut self.lacked, &other.lacked);
+        self.differences += other.differences;
+    }
+
     /// Labels a case and adds what came of it. Gives the engine's answer.
     fn check(&mut self, random: &mut Random, noise: &Noise, case: &Case) -> Answer {
         let room = case.room;

@@ -161,32 +161,58 @@ fn seldom(counts: &Counts, refusals: impl IntoIterator<Item = usize>) -> usize {
     seldom.count()
 }
 
-/// Compares packets, run and labelled, until so many runs are compared; how many differ, and how many
-/// refusals, rules and labels were met too seldom.
-fn compare_packets(random: &mut Random, noise: &Noise, packets: usize) -> usize {
-    let mut runs = runs::Compared::default();
-    let mut labels = labels::Compared::default();
-    while runs.packets() < packets {
-        let case = packets::case(random);
-        runs.compare(random, noise, &case);
-        labels.compare(random, noise, &case);
+/// What came of packets, run and labelled.
+#[derive(Default)]
+struct Packets {
+    runs: runs::Compared,
+    labels: labels::Compared,
+}
+
+impl Packets {
+    /// Compares packets until so many runs are compared.
+    fn compared(random: &mut Random, noise: &Noise, packets: usize) -> Self {
+        let mut compared = Packets::default();
+        while compared.runs.packets() < packets {
+            let case = packets::case(random);
+            compared.runs.compare(random, noise, &case);
+            compared.labels.compare(random, noise, &case);
+        }
+        compared
     }
-    let mut differences = runs.differences + labels.differences;
-    print("Run", &runs.counts, 1..=10);
-    differences += seldom(&runs.counts, 4..=10);
-    let using = RULES.iter().zip(runs.using);
-    let using = using.map(|(rule, n)| (rule.to_string(), n)).collect();
-    differences += print_met("rules used by", &using);
-    let wrong = WRONG_LABELS.iter().zip(runs.wrong_labels);
-    let mut met = vec![("passed over".to_string(), runs.passed_over)];
-    met.extend(wrong.map(|(label, n)| (format!("{} {label:?}", label.refusal()), n)));
-    differences += print_met("labels", &met);
-    print("Labelled", &labels.counts, [1].into_iter().chain(LABELLING));
-    differences += seldom(&labels.counts, [0].into_iter().chain(LABELLING));
-    let lacked = labels::LACKS.iter().zip(labels.lacked);
-    let lacked = lacked.map(|((stage, number), n)| (format!("{stage:?} {number}"), n));
-    differences += print_met("refused by", &lacked.collect());
-    differences
+
+    fn and(mut self, other: &Self) -> Self {
+        self.runs.add(&other.runs);
+        self.labels.add(&other.labels);
+        self
+    }
+
+    /// Prints what came of them; how many differ, and how many refusals, rules and labels were met too
+    /// seldom.
+    fn print(&self) -> usize {
+        let (runs, labels) = (&self.runs, &self.labels);
+        let mut differences = runs.differences + labels.differences;
+        print("Run", &runs.counts, 1..=10);
+        differences += seldom(&runs.counts, 4..=10);
+        let using = RULES.iter().zip(runs.using);
+        let using = using.map(|(rule, n)| (rule.to_string(), n)).collect();
+        differences += print_met("rules used by", &using);
+        let wrong = WRONG_LABELS.iter().zip(runs.wrong_labels);
+        let mut met = vec![("passed over".to_string(), runs.passed_over)];
+        met.extend(wrong.map(|(label, n)| (format!("{} {label:?}", label.refusal()), n)));
+        differences += print_met("labels", &met);
+        print("Labelled", &labels.counts, [1].into_iter().chain(LABELLING));
+        differences += seldom(&labels.counts, [0].into_iter().chain(LABELLING));
+        let lacked = labels::LACKS.iter().zip(labels.lacked);
+        let lacked = lacked.map(|((stage, number), n)| (format!("{stage:?} {number}"), n));
+        differences + print_met("refused by", &lacked.collect())
+    }
+}
+
+/// Adds the numbers of one list to those of another.
+pub fn add<const N: usize>(to: &mut [usize; N], numbers: &[usize; N]) {
+    for (to, number) in to.iter_mut().zip(numbers) {
+        *to += number;
+    }
 }
 
 /// Compares calls of each operation; how many differ, how many refusals were never met, and how many kinds
@@ -235,8 +261,7 @@ fn compare_beginnings(random: &mut Random, noise: &Noise) -> usize {
     short.differences + completed.differences
 }
 
-/// Packets are compared beside everything else, each from a seed of its own: the lines of the two may
-/// come in any order.
+/// Packets are compared in two threads beside everything else in a third, each from a seed of its own.
 fn main() {
     let words: Vec<u64> = std::env::args()
         .skip(1)
@@ -245,7 +270,8 @@ fn main() {
     let packets = words.first().map_or(PACKETS, |n| *n as usize);
     let seed = words.get(1).copied().unwrap_or(20_261_115);
     let noise = &Noise::new(&mut Random::new(seed));
-    let of_packets = || compare_packets(&mut Random::new(seed + 1), noise, packets);
+    let of_packets =
+        |seed, packets| move || Packets::compared(&mut Random::new(seed), noise, packets);
     let of_the_rest = || {
         let random = &mut Random::new(seed + 2);
         compare_calls(random, noise)
@@ -255,16 +281,19 @@ fn main() {
     };
     // The model and the second evaluator recurse as deep as trees and frames go.
     let deep = || std::thread::Builder::new().stack_size(1 << 30);
-    let differences = std::thread::scope(|scope| {
-        let threads = [
-            deep().spawn_scoped(scope, of_packets).expect("a thread"),
-            deep().spawn_scoped(scope, of_the_rest).expect("a thread"),
-        ];
-        threads.map(|thread| thread.join().ok())
+    let half = packets / 2;
+    let (packets, rest) = std::thread::scope(|scope| {
+        let threads = [(seed + 1, half), (seed + 3, packets - half)].map(|(seed, packets)| {
+            let of_packets = of_packets(seed, packets);
+            deep().spawn_scoped(scope, of_packets).expect("a thread")
+        });
+        let rest = deep().spawn_scoped(scope, of_the_rest).expect("a thread");
+        (threads.map(|thread| thread.join().ok()), rest.join().ok())
     });
-    let [Some(one), Some(other)] = differences else {
+    let ([Some(one), Some(other)], Some(rest)) = (packets, rest) else {
         std::process::exit(1);
     };
-    println!("{} differences", one + other);
-    std::process::exit(i32::from(one + other != 0));
+    let differences = one.and(&other).print() + rest;
+    println!("{differences} differences");
+    std::process::exit(i32::from(differences != 0));
 }

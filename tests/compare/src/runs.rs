@@ -1,6 +1,6 @@
 //! Run beside the second evaluator and the model, and beside itself on the packet without its label.
 
-use crate::{difference, hexadecimal, Counts, Noise};
+use crate::{add, difference, hexadecimal, Counts, Noise};
 use compare::packets::{self, Case, Label, Parts, Room, WRONG_LABELS};
 use compare::random::Random;
 use compare::{counted_of, PAPERS};
@@ -104,6 +104,14 @@ pub struct Compared {
 impl Compared {
     pub fn packets(&self) -> usize {
         self.counts.iter().sum()
+    }
+
+    pub fn add(&mut self, other: &Self) {
+        add(&mut self.counts, &other.counts);
+        add(&mut self.using, &other.using);
+        add(&mut self.wrong_labels, &other.wrong_labels);
+        self.passed_over += other.passed_over;
+        self.differences += other.differences;
     }
 
     fn count(&mut self, case: &Case, modelled: &Counted) {

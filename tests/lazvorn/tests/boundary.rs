@@ -939,10 +939,18 @@ fn rule_text_on_a_stack_of_1_mib() {
 /// Every call with a table of so many words, on a packet with this rule. Each refusal but that of `unlabel`
 /// is `refusal`, where nodes are to be made for the rule, else 0.
 fn each_call(words: usize, rule: &[u8], refusal: usize) {
-    let packet = [&[1, (rule.len() >> 8) as u8, rule.len() as u8], rule, &[4, 0, 1, b'0']].concat();
+    let packet = [
+        &[1, (rule.len() >> 8) as u8, rule.len() as u8],
+        rule,
+        &[4, 0, 1, b'0'],
+    ]
+    .concat();
     let (mut stack, mut out) = (vec![NOISE; 65_536], vec![BYTE; 65_535]);
     let mut lent = table(words);
-    assert_eq!(lazvorn::translate(&mut lent, 3, &mut stack, rule).refusal, refusal);
+    assert_eq!(
+        lazvorn::translate(&mut lent, 3, &mut stack, rule).refusal,
+        refusal
+    );
     let mut lent = table(words);
     assert_eq!(lazvorn::read(&mut lent, 3, &mut stack, b"200").refusal, 0);
     assert_eq!(lazvorn::write(&lent, 3, &mut stack, 2, &mut out).refusal, 0);
@@ -950,8 +958,14 @@ fn each_call(words: usize, rule: &[u8], refusal: usize) {
     assert_eq!(lazvorn::label(&mut lent, 3, 2, 1).refusal, 0);
     assert_eq!(lazvorn::unlabel(&lent, 3, 2).refusal, NOT_LABELLED);
     assert_eq!(lazvorn::same(&lent, 3, 2, 1).refusal, 0);
-    assert_eq!(lazvorn::run(&mut lent, &mut stack, &mut out, &packet).refusal, refusal);
-    assert_eq!(lazvorn::label_packet(&mut lent, &mut stack, &mut out, &packet).refusal, refusal);
+    assert_eq!(
+        lazvorn::run(&mut lent, &mut stack, &mut out, &packet).refusal,
+        refusal
+    );
+    assert_eq!(
+        lazvorn::label_packet(&mut lent, &mut stack, &mut out, &packet).refusal,
+        refusal
+    );
 }
 
 /// The stack that include/lazvorn.h names for each length of table, and what a thread itself needs.
@@ -960,11 +974,14 @@ fn calls_on_the_stack_that_the_header_names() {
     const OWN: usize = 32 << 10;
     // One abstraction over applications that nest to the right, as many as 4,096 bytes have room for.
     let deep = [&[2][..], &[1, 0].repeat(2_047), &[0]].concat();
-    for (words, kib) in [(128, 20), (2_048, 20), (16_384, 120), (131_072, 800)] {
+    for (words, kib) in [(128, 12), (2_048, 12), (16_384, 64), (131_072, 400)] {
         let rule = deep.clone();
         let deepest = if words < 16_384 { NODES } else { 0 };
         for (more, call) in [
-            (0, Box::new(move || each_call(words, &[2, 3, 0], 0)) as Box<dyn FnOnce() + Send>),
+            (
+                0,
+                Box::new(move || each_call(words, &[2, 3, 0], 0)) as Box<dyn FnOnce() + Send>,
+            ),
             (1 << 20, Box::new(move || each_call(words, &rule, deepest))),
         ] {
             let thread = std::thread::Builder::new().stack_size((kib << 10) + more + OWN);
