@@ -11,9 +11,9 @@
  * and used is the count of different trees. To find equal nodes a call keeps an index in its own
  * stack frame, which the caller does not lend. Its size goes by the table's length:
  *   nodes of the table (words / 2)    bytes of the thread's stack that a call needs
- *   up to 1,024                       20 KiB
- *   up to 8,192                       120 KiB
- *   up to 65,536                      800 KiB
+ *   up to 1,024                       12 KiB
+ *   up to 8,192                       64 KiB
+ *   up to 65,536                      400 KiB
  * lazvorn_translate, lazvorn_run and lazvorn_label_packet go into a rule as deep as it nests, and need
  * up to 1 MiB more for the deepest, some 512 bytes for each application within another. Only
  * lazvorn_rule_text, which has no table, needs none of this.
