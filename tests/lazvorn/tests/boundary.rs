@@ -971,7 +971,7 @@ fn each_call(words: usize, rule: &[u8], refusal: usize) {
 /// The stack that include/lazvorn.h names for each length of table, and what a thread itself needs.
 #[test]
 fn calls_on_the_stack_that_the_header_names() {
-    const OWN: usize = 32 << 10;
+    const OWN: usize = 16 << 10;
     // One abstraction over applications that nest to the right, as many as 4,096 bytes have room for.
     let deep = [&[2][..], &[1, 0].repeat(2_047), &[0]].concat();
     for (words, kib) in [(128, 12), (2_048, 12), (16_384, 64), (131_072, 400)] {
