@@ -10,12 +10,12 @@
  * used nodes are equal. So two node numbers are equal exactly when their trees are (lazvorn_same),
  * and used is the count of different trees. To find equal nodes a call keeps an index in its own
  * stack frame, which the caller does not lend. Its size goes by the table's length:
- *   nodes of the table (words / 2)    bytes of the thread's stack that a call needs
- *   up to 1,024                       12 KiB
- *   up to 8,192                       64 KiB
- *   up to 65,536                      400 KiB
- * lazvorn_translate, lazvorn_run and lazvorn_label_packet go into a rule as deep as it nests, and need
- * up to 1 MiB more for the deepest, some 512 bytes for each application within another. Only
+ *   words of the table    nodes           bytes of the thread's stack that a call needs
+ *   up to 2,048           up to 1,024     12 KiB
+ *   up to 16,384          up to 8,192     64 KiB
+ *   up to 131,072         up to 65,536    400 KiB
+ * lazvorn_translate, lazvorn_run and lazvorn_label_packet go into a rule as deep as it nests, and
+ * need up to 1 MiB more for the deepest, some 512 bytes for each application within another. Only
  * lazvorn_rule_text, which has no table, needs none of this.
  *
  * What a caller owes is what C itself asks: a pointer reaches as many elements as its length says,
@@ -58,7 +58,7 @@ enum {
     LAZVORN_STEPS = 3,   /* the uses of the five rules */
     LAZVORN_DIGITS = 4,  /* the digits written to out */
     LAZVORN_LEAF = 5,    /* the uses of leaf; from here on of lazvorn_apply and lazvorn_run alone */
-    LAZVORN_STEM = 6,    /* the uses of stem; with those of leaf, at least the nodes that applying made */
+    LAZVORN_STEM = 6,    /* the uses of stem; with those of leaf, at least the nodes made */
     LAZVORN_DROP = 7,    /* the uses of drop */
     LAZVORN_SPREAD = 8,  /* the uses of spread */
     LAZVORN_TRIAGE = 9   /* the uses of triage */
@@ -120,7 +120,7 @@ void lazvorn_translate(
     uint32_t *table,      /* the table's words */
     size_t table_len,     /* how many words */
     size_t used,          /* nodes in use */
-    uint32_t *stack,      /* the stack's words: two frames for each digit of the rule's tree */
+    uint32_t *stack,      /* the stack's words: two frames for each digit of its tree's text */
     size_t stack_len,     /* how many words */
     const uint8_t *bytes, /* the rule's bytes, at most 4,096 of them */
     size_t bytes_len,     /* how many bytes */

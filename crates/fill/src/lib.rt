@@ -8,8 +8,7 @@ ghost use Rattle.table.specs.Nodes.{capacity, broken, sound};
 ghost use Rattle.index.specs.Index.{Empty, Ready};
 use index::Found;
 
-// Whether node i with the branch words a and b is broken. The last test is a = 0 < b, since b is a word; no test of a sound node depends on
-// whether it is a leaf, so that a processor foresees all three.
+// Whether node i with the branch words a and b is broken. The last test is a = 0 < b, since b is a word.
 fn is_broken(i: usize, a: usize, b: usize) -> bool
     requires { ⌜ (a < 4294967296) × (b < 4294967296) ⌝ }
     ensures { λ r. ⌜ r ≡ broken i a b ⌝ }

@@ -1,5 +1,5 @@
 // Label as an operation on lent memory: the checks, then the crate `label`. It owns the index of the table's nodes (crate `index`), in five sizes, so that
-// a table pays for an index about as long as it needs; the longest are met after the most tests, as in the crate `checks`.
+// a table pays for an index about as long as it needs; the longest are met after the most tests, as in the crate `entry_check`.
 ghost use mathlib.Core.Path.{_≡_};
 ghost use mathlib.Core.Bool.{true};
 ghost use mathlib.Core.List.{[]};

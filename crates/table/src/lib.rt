@@ -1,5 +1,5 @@
 // A lent table's words as nodes, the refusals, and what the operations share, as definitions, in specs/, and their theorems, in proofs/. The code
-// over a table is in the crates `nodes`, `index`, `checks`, `same` and `refusals`.
+// over a table is in the crates `nodes`, `index`, `fill`, `checks`, `entry_check`, `same` and `refusals`.
 
 // Why an operation was refused. `specs/Refusal.antt` gives the number of each.
 pub enum Refusal {

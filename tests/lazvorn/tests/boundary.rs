@@ -974,7 +974,14 @@ fn calls_on_the_stack_that_the_header_names() {
     const OWN: usize = 16 << 10;
     // One abstraction over applications that nest to the right, as many as 4,096 bytes have room for.
     let deep = [&[2][..], &[1, 0].repeat(2_047), &[0]].concat();
-    for (words, kib) in [(128, 12), (2_048, 12), (16_384, 64), (131_072, 400)] {
+    for (words, kib) in [
+        (128, 12),
+        (2_048, 12),
+        (2_049, 64),
+        (16_384, 64),
+        (16_385, 400),
+        (131_072, 400),
+    ] {
         let rule = deep.clone();
         let deepest = if words < 16_384 { NODES } else { 0 };
         for (more, call) in [
