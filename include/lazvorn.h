@@ -58,7 +58,7 @@ enum {
     LAZVORN_STEPS = 3,   /* the uses of the five rules */
     LAZVORN_DIGITS = 4,  /* the digits written to out */
     LAZVORN_LEAF = 5,    /* the uses of leaf; from here on of lazvorn_apply and lazvorn_run alone */
-    LAZVORN_STEM = 6,    /* the uses of stem; with those of leaf, at least the nodes made */
+    LAZVORN_STEM = 6,    /* the uses of stem; with leaf's, at least the nodes that applying made */
     LAZVORN_DROP = 7,    /* the uses of drop */
     LAZVORN_SPREAD = 8,  /* the uses of spread */
     LAZVORN_TRIAGE = 9   /* the uses of triage */

@@ -22,7 +22,7 @@ fn is_broken(i: usize, a: usize, b: usize) -> bool
     a * 4294967296 < b
 }
 
-// Enters the used nodes into an empty index. Whether none of them is broken and no two are equal.
+// Enters the used nodes into an empty index, in which node 0 leaves its entry empty. Whether none of them is broken and no two are equal.
 pub fn fill(table: &[u32], used: usize, index: &mut [u16], slots: usize) -> bool
     requires { ⌜ Empty (now table) slots (now index) × (length (now table) ≤ 131072) × (used ≤ capacity (now table)) ⌝ }
     ensures { λ r. ⌜ (r ≡ sound (now (table .entry)) used) × (r ≡ true → Ready (now (table .entry)) used slots (now (index .exit))) ⌝ }

@@ -44,7 +44,8 @@ fn has_words(table: &[u32], i: usize, a: usize, b: usize) -> bool
     }
 }
 
-// The node with the words a and b, or the empty entry that is its place. Goes over blocks of eight entries, and over the entries of each.
+// The node with the words a and b, or the empty entry that is its place. The leaf has no entry: it is node 0, once a node is in use. For any other node
+// goes over blocks of eight entries, and over the entries of each.
 pub fn search(table: &[u32], used: usize, index: &[u16], slots: usize, a: usize, b: usize) -> Found
     requires { ⌜ Ready (now table) used slots (now index) × (a < 4294967296) × (b < 4294967296) × (a ≡ 0 → b ≡ 0) ⌝ }
     ensures { λ r. ⌜ Sought (now (table .entry)) used slots (now (index .entry)) a b r ⌝ }
@@ -71,7 +72,8 @@ pub fn search(table: &[u32], used: usize, index: &[u16], slots: usize, a: usize,
     }
 }
 
-// The node with the words a and b: the used one that has them, else a new one, if it has a place.
+// The node with the words a and b: the used one that has them, else a new one, if it has a place. A new leaf is node 0, and entering it leaves its entry
+// empty.
 pub fn make(
     table: &mut [u32],
     used: usize,
