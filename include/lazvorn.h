@@ -14,9 +14,9 @@
  *   up to 2,048           up to 1,024     12 KiB
  *   up to 16,384          up to 8,192     64 KiB
  *   up to 131,072         up to 65,536    400 KiB
- * lazvorn_translate, lazvorn_run and lazvorn_label_packet go into a rule as deep as it nests, and
- * need up to 1 MiB more for the deepest, some 512 bytes for each application within another. Only
- * lazvorn_rule_text, which has no table, needs none of this.
+ * lazvorn_translate, lazvorn_run, lazvorn_stopped and lazvorn_label_packet go into a rule as deep
+ * as it nests, and need up to 1 MiB more for the deepest, some 512 bytes for each application
+ * within another. Only lazvorn_rule_text, which has no table, needs none of this.
  *
  * What a caller owes is what C itself asks: a pointer reaches as many elements as its length says,
  * and what the call writes (the table but for lazvorn_write, lazvorn_unlabel and lazvorn_same, the
@@ -26,14 +26,15 @@
  * Each call writes its numbers to answer, and the caller lends room for as many:
  *   lazvorn_apply and lazvorn_run write ten: refusal, node, used, steps, digits, and the uses of
  *     leaf, stem, drop, spread and triage, whose sum is the steps;
- *   lazvorn_unlabel writes six: the first five of these, and the label's node;
+ *   lazvorn_stopped writes four: refusal, the argument's place, the steps, and the rule wanted;
+ *   lazvorn_unlabel writes six: the first five of the ten, and the label's node;
  *   lazvorn_same writes two: refusal, and 1 if the trees are equal, else 0;
  *   lazvorn_rule_text writes two: refusal, and bytes written;
  *   every other call writes the first five of the ten.
  * A refusal gives its number, used as at entry (0 for lazvorn_run and lazvorn_label_packet), and 0
- * for the others. Refusals 1 to 6, 11 and 12 leave all lent memory as found. Refusals 7 to 10 set
- * the stack and the words of the nodes made in the call to 0 and leave out as found. Success sets
- * the stack to 0.
+ * for the others; lazvorn_stopped alone tells more of a refusal. Refusals 1 to 6, 11 and 12 leave
+ * all lent memory as found. Refusals 7 to 10 set the stack and the words of the nodes made in the
+ * call to 0 and leave out as found. Success sets the stack to 0.
  *
  * A packet is a run of fields: a one-byte tag, a two-byte length (high byte first), the value.
  * First tag 1, a rule; then none to eight of tag 2, an argument's text; then at most one of tag 3,
@@ -75,6 +76,25 @@ enum { LAZVORN_PARTS = 6 };
 
 /* In lazvorn_same's answer, 1 if the trees are equal. */
 enum { LAZVORN_EQUAL = 1 };
+
+/* In lazvorn_stopped's answer; 0 for every outcome that is no stop while applying. */
+enum {
+    LAZVORN_PLACE = 1, /* the place of the argument that was applied to, from 1 to 8 */
+    LAZVORN_TAKEN = 2, /* the steps taken in the whole run */
+    LAZVORN_WANTED = 3 /* the rule that was wanted next, one of the numbers below */
+};
+
+/* How many numbers lazvorn_stopped writes. */
+enum { LAZVORN_STOPPED = 4 };
+
+/* The rule that was wanted. */
+enum {
+    LAZVORN_WANTED_LEAF = 1,
+    LAZVORN_WANTED_STEM = 2,
+    LAZVORN_WANTED_DROP = 3,
+    LAZVORN_WANTED_SPREAD = 4,
+    LAZVORN_WANTED_TRIAGE = 5
+};
 
 /* Refusals. */
 enum {
@@ -191,6 +211,32 @@ void lazvorn_run(
     const uint8_t *packet, /* the packet, at most 16,384 bytes */
     size_t packet_len,     /* how many bytes */
     size_t answer[10]);    /* the ten numbers */
+
+/*
+ * Runs a packet as lazvorn_run does and leaves the same in table, stack and out. Gives the refusal
+ * of lazvorn_run, and for 7, 8 or 9 met while applying where that was: the argument's place
+ * (LAZVORN_PLACE), the steps of the whole run (LAZVORN_TAKEN) and the rule that was wanted
+ * (LAZVORN_WANTED). A refusal alone, these three 0, was met elsewhere: 8 or 9 by Translate or Read,
+ * 9 or 10 by Write. Where the run completes, lazvorn_run tells how many digits out has. Refusals 1,
+ * 4 to 10.
+ * A stop names what the wanted use lacked first, in the order 7, 8, 9. One more of it is for
+ *   7  a step limit of one step more, by tag 3, up to 1,000,000; a packet without tag 3 has the
+ *      limit 100,000, and the field adds seven bytes to it, before tag 4 where there is one
+ *   8  a table of one node more, two words, up to 131,072 words
+ *   9  a stack of one frame more, three words, up to 65,536 words
+ * With this alone the run goes at least one use further, or that use lacks something later in the
+ * order.
+ */
+void lazvorn_stopped(
+    uint32_t *table,       /* the table's words */
+    size_t table_len,      /* how many words */
+    uint32_t *stack,       /* the stack's words */
+    size_t stack_len,      /* how many words */
+    uint8_t *out,          /* the out bytes for the outcome's text */
+    size_t out_len,        /* how many bytes */
+    const uint8_t *packet, /* the packet, at most 16,384 bytes */
+    size_t packet_len,     /* how many bytes */
+    size_t answer[4]);     /* the four numbers */
 
 /*
  * Labels a packet's rule with its label, the table taken as empty, and writes the labelled tree as

@@ -1,12 +1,12 @@
 -- Laws for each way that the code of Apply goes at entry, over plain values. Assumes nothing.
 use Prim.Native.Nat.{ℕ, _≤_, _<_}
-use mathlib.Core.Path.{_≡_, sym, _∙_}
+use mathlib.Core.Path.{_≡_, sym, ap, _∙_}
 use mathlib.Core.List.{List}
 use mathlib.Core.Option.{none, some}
 use lib.ListN.{length}
 use lib.Dec.{leb}
 use borrow.Author.Tests.{lt-ltb, le-ltb, lt-leb, le-leb, leb-true}
-use Rattle.table.specs.Outcome.{Outcome, whole, atEntry}
+use Rattle.table.specs.Outcome.{whole, answered, atEntry}
 use Rattle.table.specs.declared.Refusal.{Refusal}
 use Rattle.table.specs.declared.Refusal.the-variants.{Limits}
 use Rattle.table.specs.declared.Refusal.the-variants as refusal
@@ -17,8 +17,10 @@ use Rattle.checks.specs.declared.Checked.the-variants as check
 use Rattle.checks.proofs.Entry.{too-long, not-within, long-stack}
 use Rattle.applying.specs.declared.Applied.{Applied}
 use Rattle.applying.specs.declared.Applied.the-variants.{Refused}
-use Rattle.applying.specs.Apply.{applyNodes, apply}
-use Rattle.applying.proofs.Cases.{entered-apply}
+use Rattle.applying.specs.declared.Ended.{Ended}
+use Rattle.applying.specs.Apply.{apply}
+use Rattle.applying.specs.Ended.{applyEnded, appliedOf}
+use Rattle.applying.proofs.Told.{apply-told}
 
 -- 1, which needs no index: the table's length, the step limit, the stack's length
 module _ (w : List ℕ) (u : ℕ) (s : List ℕ) (f n limit : ℕ) where
@@ -58,5 +60,5 @@ module _ (w : List ℕ) (u : ℕ) (s : List ℕ) (f n limit : ℕ) (p : atEntry 
     unfolding apply
     refuse-argument h = rw (p, lt-ltb f u function-in, le-ltb n u h)
 
-    pub by-nodes : n < u → (o : Outcome Applied) → o ≡ applyNodes w u s f n limit → o ≡ apply w u s f n limit
-    by-nodes argument-in o r = r ∙ entered-apply limit (entered (leb limit 1000000) w u s p) function-in argument-in
+    pub by-nodes : n < u → {a : Ended} {b : Applied} {z y : List ℕ} → whole a z y ≡ applyEnded w u s f n limit → b ≡ appliedOf a → whole b z y ≡ apply w u s f n limit
+    by-nodes argument-in e q = rw q (ap (answered appliedOf) e ∙ apply-told limit (entered (leb limit 1000000) w u s p) function-in argument-in)

@@ -3,6 +3,7 @@
 // The operation has an index of its own (crate `index`), in four sizes, so that a table pays for an index about as long as it needs. The longest are met after
 // the most tests: a compiler that takes a call behind many tests for a rare one gives its array a frame of its own, which the shorter tables then do not touch.
 use applying::Applied;
+use applying::Ended;
 use checks::Checked;
 use table::Refusal;
 ghost use mathlib.Core.Path.{_≡_};
@@ -13,6 +14,31 @@ ghost use lib.Dec.{leb};
 ghost use Rattle.table.specs.Outcome.{whole, atEntry};
 ghost use Rattle.index.specs.Index.{Ready};
 ghost use Rattle.applying.specs.Apply.{apply};
+ghost use Rattle.applying.specs.Ended.{appliedOf};
+
+// Apply's answer, which does not tell where an application stopped.
+fn applied(ended: Ended) -> Applied
+    ensures { λ r. ⌜ r ≡ appliedOf ended ⌝ }
+{
+    match ended {
+        Ended::Node {
+            node,
+            used,
+            steps,
+            uses,
+        } => Applied::Node {
+            node: node,
+            used: used,
+            steps: steps,
+            uses: uses,
+        },
+        Ended::Stopped {
+            refusal,
+            steps: _,
+            rule: _,
+        } => Applied::Refused(refusal),
+    }
+}
 
 // Applies one node to another in a table that passed 1 and 2 and has its index: 3 for either number, then the application.
 fn apply_checked(
@@ -34,7 +60,8 @@ fn apply_checked(
     if used <= argument {
         return Applied::Refused(Refusal::Node);
     }
-    machine::apply_nodes(table, used, stack, function, argument, limit, index, slots)
+    let ended = machine::apply_nodes(table, used, stack, function, argument, limit, index, slots);
+    applied(ended)
 }
 
 // In a table of at most 64 nodes.

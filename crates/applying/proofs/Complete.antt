@@ -83,7 +83,7 @@ apply-complete {w} {u} {s} {f} {n} {limit} e h l {r} {k} d m =
     by (more z) q y = absurd y
     by (done p j) q y = let z : j ≡ k = y .1 ∙ none-uses k in inl (p .node, p .table .used, rw z, y .0)
     by (stop c t) q y =
-        inr (lacked (stop-lacks all limit b c t q .5))
+        inr (lacked (stop-lacks all limit b c t q .3))
 
 -- "refusal 7 if the step limit is reached": where Apply is refused for steps, the rules give no tree in `limit` uses or fewer.
 pub steps-used-up : (w : List ℕ) (u : ℕ) (s : List ℕ) (f n limit : ℕ) → apply w u s f n limit .answer ≡ Refused Steps

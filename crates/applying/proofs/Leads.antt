@@ -3,7 +3,7 @@ use Prim.Native.Nat.{ℕ, _+_, _-_, _*_, _<_}
 use mathlib.Core.Path.{_≡_, refl, sym, ap, _∙_, transport, transport⁻¹}
 use mathlib.Core.List.{List, [], _∷_}
 use native.Mathlib.Omega.{arith}
-use lib.ListN.{length}
+use lib.ListN.{length, getD}
 use lib.Dec.{ltb}
 use Rattle.calculus.specs.Tree.{Tree, leaf, stem, fork}
 use Rattle.calculus.specs.declared.Uses.{Uses}
@@ -45,15 +45,23 @@ uses-some (by-triage c d) = omega arith
 
 -- What the first use leaves, by the five rules: a tree to go on from, or the applications of spread ("applies y to N giving v, then p to N
 -- giving w, then v to w") and of triage ("applies N to p giving v, then v to q").
+-- `App f n P k` says how f is applied to n before P goes on.
+abbrev pub Applying : Type 1
+Applying = Tree → Tree → (Tree → Uses → Type 0) → Uses → Type 0
+
+abbrev pub UseBy : Applying → Tree → Tree → (Tree → Uses → Type 0) → Uses → Type 0
+UseBy App leaf n P k = P (stem n) k
+UseBy App (stem p) n P k = P (fork p n) k
+UseBy App (fork leaf y) n P k = P y k
+UseBy App (fork (stem p) y) n P k = App y n (λ v. App p n (λ w. App v w P)) k
+UseBy App (fork (fork p q) y) n P k = App n p (λ v. App v q P) k
+
+-- where each application is completed
 abbrev pub Use : Tree → Tree → (Tree → Uses → Type 0) → Uses → Type 0
-Use leaf n P k = P (stem n) k
-Use (stem p) n P k = P (fork p n) k
-Use (fork leaf y) n P k = P y k
-Use (fork (stem p) y) n P k = Then y n (λ v. Then p n (λ w. Then v w P)) k
-Use (fork (fork p q) y) n P k = Then n p (λ v. Then v q P) k
+Use = UseBy Then
 
 -- the first use alone
-abbrev firstUse : Tree → Uses
+abbrev pub firstUse : Tree → Uses
 firstUse leaf = oneLeaf
 firstUse (stem p) = oneStem
 firstUse (fork leaf y) = oneDrop
@@ -92,41 +100,57 @@ before-use (fork (fork p q) y) k x =
     let v = x .goes in
     and-then (v .left) (by-triage (x .applies) (v .applies)) (v .goes) (rw (x .counted, v .counted, in-triage oneTriage (x .taken) (v .taken) (v .left)))
 
--- The frames, handed a tree, lead to the tree o with the uses k; the trees of nodes are read in the words w.
-abbrev pub Cont : List ℕ → Tree → List Frame → Tree → Uses → Type 0
-Cont w o [] = λ r k. (r ≡ o) × (k ≡ noUses)
-Cont w o (SpreadFirst p n ∷ fs) = λ r. Then (treeAt w p) (treeAt w n) (λ x. Then r x (Cont w o fs))
-Cont w o (SpreadSecond v ∷ fs) = λ r. Then (treeAt w v) r (Cont w o fs)
-Cont w o (TriageFirst q ∷ fs) = λ r. Then r (treeAt w q) (Cont w o fs)
+-- The frames, handed a tree, go on so; End is said of the tree in the end and of the uses left. The trees of nodes are read in the words w.
+module _ (App : Applying) (End : Tree → Uses → Type 0) (w : List ℕ) where
+  abbrev pub ContBy : List Frame → Tree → Uses → Type 0
+  ContBy [] = End
+  ContBy (SpreadFirst p n ∷ fs) = λ r. App (treeAt w p) (treeAt w n) (λ x. App r x (ContBy fs))
+  ContBy (SpreadSecond v ∷ fs) = λ r. App (treeAt w v) r (ContBy fs)
+  ContBy (TriageFirst q ∷ fs) = λ r. App r (treeAt w q) (ContBy fs)
 
--- the state s leads to the tree o with the uses k
+  -- a state goes on so with the uses k
+  abbrev pub GoesBy : State → Uses → Type 0
+  GoesBy s k = App (treeAt w (s .function)) (treeAt w (s .argument)) (ContBy (s .frames)) k
+
+  -- and a turn; S is what is said of a stop
+  abbrev pub TurnBy : Uses → Type 0 → Turn → Type 0
+  TurnBy k S (more z) = GoesBy z k
+  TurnBy k S (done p j) = End (treeAt w (p .node)) k
+  TurnBy k S (stop e z) = S
+
+  said : (k : Uses) {R S : Type 0} (x : Turn) → (R → S) → TurnBy k R x → TurnBy k S x
+  said k (more z) f l = l
+  said k (done p j) f l = l
+  said k (stop e z) f l = f l
+
+-- the tree in the end is o, and no uses are left
+abbrev pub Comes : Tree → Tree → Uses → Type 0
+Comes o r k = (r ≡ o) × (k ≡ noUses)
+
+-- the state s leads to the tree o with the uses k, and a turn does
 abbrev pub Leads : List ℕ → State → Tree → Uses → Type 0
-Leads w s o k = Then (treeAt w (s .function)) (treeAt w (s .argument)) (Cont w o (s .frames)) k
+Leads w s o k = GoesBy Then (Comes o) w s k
 
--- a turn leads to it; S is what is said of a stop
 abbrev pub TurnLeads : List ℕ → Tree → Uses → Type 0 → Turn → Type 0
-TurnLeads w o k S (more z) = Leads w z o k
-TurnLeads w o k S (done p j) = (treeAt w (p .node) ≡ o) × (k ≡ noUses)
-TurnLeads w o k S (stop e t) = S
-
-said : (w : List ℕ) (o : Tree) (k : Uses) {R S : Type 0} (x : Turn) → (R → S) → TurnLeads w o k R x → TurnLeads w o k S x
-said w o k (more z) f l = l
-said w o k (done p j) f l = l
-said w o k (stop e t) f l = f l
+TurnLeads w o k S x = TurnBy Then (Comes o) w k S x
 
 -- in a later table it is the same, for old nodes keep their trees
-cont-same : {t z : Table} → Sound t → Kept t z → (o : Tree) (fs : List Frame) → FramesIn (t .used) fs → Cont (z .words) o fs ≡ Cont (t .words) o fs
-cont-same s k o [] i = refl
-cont-same s k o (SpreadFirst p n ∷ fs) i =
-    λ d r. Then (kept-tree s k p (i .0 .0) d) (kept-tree s k n (i .0 .1) d) (λ x. Then r x (cont-same s k o fs (i .1) d))
-cont-same s k o (SpreadSecond v ∷ fs) i = λ d r. Then (kept-tree s k v (i .0) d) r (cont-same s k o fs (i .1) d)
-cont-same s k o (TriageFirst q ∷ fs) i = λ d r. Then r (kept-tree s k q (i .0) d) (cont-same s k o fs (i .1) d)
+module _ (App : Applying) (End : Tree → Uses → Type 0) {t z : Table} (s : Sound t) (k : Kept t z) where
+  cont-same : (fs : List Frame) → FramesIn (t .used) fs → ContBy App End (z .words) fs ≡ ContBy App End (t .words) fs
+  cont-same [] i = refl
+  cont-same (SpreadFirst p n ∷ fs) i = λ d r. App (kept-tree s k p (i .0 .0) d) (kept-tree s k n (i .0 .1) d) (λ x. App r x (cont-same fs (i .1) d))
+  cont-same (SpreadSecond v ∷ fs) i = λ d r. App (kept-tree s k v (i .0) d) r (cont-same fs (i .1) d)
+  cont-same (TriageFirst q ∷ fs) i = λ d r. App r (kept-tree s k q (i .0) d) (cont-same fs (i .1) d)
+
+pub goes-same : (App : Applying) (End : Tree → Uses → Type 0) {all : ℕ} {s : State} {z : Table} → Good all s → Kept (s .table) z → (k : Uses)
+    → GoesBy App End (z .words) s k ≡ GoesBy App End (s .table .words) s k
+goes-same App End {s = s} g k j =
+    let t = kept-tree (g .fine) k in
+    rw (t (s .function) (g .function-in), t (s .argument) (g .argument-in), cont-same App End (g .fine) k (s .frames) (g .frames-in)) refl
 
 pub leads-same : {all : ℕ} {s : State} {z : Table} → Good all s → Kept (s .table) z → (o : Tree) (k : Uses)
     → Leads (s .table .words) s o k → Leads (z .words) s o k
-leads-same {s = s} g k o j x =
-    let t = kept-tree (g .fine) k in
-    rw (t (s .function) (g .function-in), t (s .argument) (g .argument-in), cont-same (g .fine) k o (s .frames) (g .frames-in)) x
+leads-same g k o j x = transport⁻¹ (goes-same Then (Comes o) g k j) x
 
 -- The rule that a node in use takes is that of its tree's shape.
 pub tree-by : {t : Table} → Sound t → (i : ℕ) → i < t .used → TreeBy (t .words) (rule (t .words) i) (treeAt (t .words) i)
@@ -146,24 +170,31 @@ tree-by {t} s i h =
     (λ c d. ap on (tree-stem w (t .used) x (s .unbroken) l (first w x - 1) c d))
     (λ c d. (treeAt w y, ap on (tree-fork w (t .used) x (s .unbroken) l (first w x - 1) (second w x - 1) c d)))))
 
-same-rule : {t z : Table} → Sound t → Kept t z → (i : ℕ) → i < t .used → rule (z .words) i ≡ rule (t .words) i
+-- where the words of the nodes in use are the same, so is the rule that each of them takes
+pub same-rule : {t : Table} (z : List ℕ) → Sound t → ((i : ℕ) → i < t .used * 2 → getD z i 0 ≡ getD (t .words) i 0) → (i : ℕ) → i < t .used → rule z i ≡ rule (t .words) i
 unfolding rule forkRule
-same-rule {t} {z} s k i h =
-    let a : (j : ℕ) → j < t .used → first (z .words) j ≡ first (t .words) j = λ j l. k .below (j * 2) (omega arith) in
-    let b : (j : ℕ) → j < t .used → second (z .words) j ≡ second (t .words) j = λ j l. k .below (j * 2 + 1) (omega arith) in
+same-rule {t} z s k i h =
+    let a : (j : ℕ) → j < t .used → first z j ≡ first (t .words) j = λ j l. k (j * 2) (omega arith) in
+    let b : (j : ℕ) → j < t .used → second z j ≡ second (t .words) j = λ j l. k (j * 2 + 1) (omega arith) in
     let x = first (t .words) i - 1 in
     let l : x < t .used = omega (arith, sound-node (t .words) (t .used) i h (s .unbroken) .first-in) in
     rw (a i h, b i h, a x l, b x l)
 
 -- What a turn from a good state leads to is what the use of its rule leaves. Trees are read in a later table y.
-module _ {all : ℕ} {s : State} (g : Good all s) {y : Table} (fine : Sound y) (kept : Kept (s .table) y) (o : Tree) (k : Uses) where
+module _ (App : Applying) (End : Tree → Uses → Type 0) {all : ℕ} {s : State} (g : Good all s) {y : Table} (fine : Sound y) (kept : Kept (s .table) y) (k : Uses) where
   abbrev tree : ℕ → Tree
   tree = treeAt (y .words)
 
-  abbrev Left : Tree → Type 0
-  Left x = Use x (tree (s .argument)) (Cont (y .words) o (s .frames)) k
+  abbrev Cont : List Frame → Tree → Uses → Type 0
+  Cont = ContBy App End (y .words)
 
-  resume-leads : (S : Type 0) (t : Table) (fs : List Frame) (j : Uses) (v : ℕ) → TurnLeads (y .words) o k S (resume t fs j v) ≡ Cont (y .words) o fs (tree v) k
+  abbrev Turns : Type 0 → Turn → Type 0
+  Turns = TurnBy App End (y .words) k
+
+  abbrev Left : Tree → Type 0
+  Left x = UseBy App x (tree (s .argument)) (Cont (s .frames)) k
+
+  resume-leads : (S : Type 0) (t : Table) (fs : List Frame) (j : Uses) (v : ℕ) → Turns S (resume t fs j v) ≡ Cont fs (tree v) k
   unfolding resume
   resume-leads S t [] j v = refl
   resume-leads S t (SpreadFirst p n ∷ fs) j v = refl
@@ -175,27 +206,27 @@ module _ {all : ℕ} {s : State} (g : Good all s) {y : Table} (fine : Sound y) (
 
   grow-leads : (i : Uses) (a b : ℕ) {x : Tree} → ((m : Placed) → make (s .table) a b ≡ got m → Places (s .table) m x)
       → Kept (tableOf (grow s i a b)) y
-      → TurnLeads (y .words) o k (Cont (y .words) o (s .frames) x k) (grow s i a b) ≡ Cont (y .words) o (s .frames) x k
+      → Turns (Cont (s .frames) x k) (grow s i a b) ≡ Cont (s .frames) x k
   unfolding grow growBy
   grow-leads i a b {x} p = go (make (s .table) a b) refl
     where
-      go : (z : Making) → make (s .table) a b ≡ z → Kept (tableOf (growBy (s .frames) i z)) y
-          → TurnLeads (y .words) o k (Cont (y .words) o (s .frames) x k) (growBy (s .frames) i z) ≡ Cont (y .words) o (s .frames) x k
+      go : (z : Making) → make (s .table) a b ≡ z → Kept (tableOf (growBy s i z)) y
+          → Turns (Cont (s .frames) x k) (growBy s i z) ≡ Cont (s .frames) x k
       go (got m) e j =
           let q : Places (s .table) m x = p m e in
           resume-leads _ (m .table) (s .frames) i (m .node)
-          ∙ ap (λ (z : Tree). Cont (y .words) o (s .frames) z k)
+          ∙ ap (λ (z : Tree). Cont (s .frames) z k)
           (kept-tree (q .fine) (rw (resume-table (m .table) (s .frames) i (m .node)) at j) (m .node) (q .inside) ∙ q .tree)
       go (full z) e j = refl
 
   hold-leads : (i : Uses) (e : Frame) (f n : ℕ) {S : Type 0}
-      → S ≡ Leads (y .words) (record { table = s .table; function = f; argument = n; frames = e ∷ s .frames; uses = i }) o k
-      → TurnLeads (y .words) o k S (hold all s i e f n) ≡ S
+      → S ≡ GoesBy App End (y .words) (record { table = s .table; function = f; argument = n; frames = e ∷ s .frames; uses = i }) k
+      → Turns S (hold all s i e f n) ≡ S
   unfolding hold
-  hold-leads i e f n {S} q = cond-by (λ z. TurnLeads (y .words) o k S z ≡ S) (ltb (length (s .frames)) all) (λ b. sym q) (λ b. refl)
+  hold-leads i e f n {S} q = cond-by (λ z. Turns S z ≡ S) (ltb (length (s .frames)) all) (λ b. sym q) (λ b. refl)
 
   use-leads : (c : Uses) (r : Rule) (x : Tree) → RuleIn (s .table .used) r → TreeBy (y .words) r x → Kept (tableOf (useRule all s c r)) y
-      → TurnLeads (y .words) o k (Left x) (useRule all s c r) ≡ Left x
+      → Turns (Left x) (useRule all s c r) ≡ Left x
   unfolding useRule
   use-leads c Leaf x i e j = rw e (grow-leads c (s .argument + 1) 0 (λ m. stem-of (g .fine) (old (g .argument-in))) j)
   use-leads c (Stem p) x i e j = rw e (grow-leads c (p + 1) (s .argument + 1) (λ m. fork-of (g .fine) (old i) (old (g .argument-in))) j)
@@ -203,10 +234,10 @@ module _ {all : ℕ} {s : State} (g : Good all s) {y : Table} (fine : Sound y) (
   use-leads c (Spread p z) x i e j = rw e (hold-leads c (SpreadFirst p (s .argument)) z (s .argument) refl)
   use-leads c (Triage p q) x i e j = rw (e .1) (hold-leads c (TriageFirst q) (s .argument) p refl)
 
-  turn-leads : Kept (tableOf (turn all s)) y → TurnLeads (y .words) o k (Left (tree (s .function))) (turn all s) ≡ Left (tree (s .function))
+  turn-leads : Kept (tableOf (turn all s)) y → Turns (Left (tree (s .function))) (turn all s) ≡ Left (tree (s .function))
   turn-leads =
       rw (turn-is all s) (use-leads (usesNext s) (wanted s) (tree (s .function)) (rule-in (g .fine) (s .function) (g .function-in))
-      (rw (← same-rule (g .fine) kept (s .function) (g .function-in)) (tree-by fine (s .function) (omega (arith, g .function-in, kept .up)))))
+      (rw (← same-rule (y .words) (g .fine) (kept .below) (s .function) (g .function-in)) (tree-by fine (s .function) (omega (arith, g .function-in, kept .up)))))
 
 -- the first use of a tree is that of the rule that is taken for it
 rule-first : (w : List ℕ) (r : Rule) (x : Tree) → TreeBy w r x → firstUse x ≡ oneUse r
@@ -216,21 +247,27 @@ rule-first w (Drop y) x e = rw e
 rule-first w (Spread p y) x e = rw e
 rule-first w (Triage p q) x e = rw (e .1)
 
-module _ {all : ℕ} {s : State} (g : Good all s) {y : Table} (fine : Sound y) (kept : Kept (tableOf (turn all s)) y) (o : Tree) (k : Uses) where
+module _ {all : ℕ} {s : State} (g : Good all s) {y : Table} (fine : Sound y) (kept : Kept (tableOf (turn all s)) y) where
   since : Kept (s .table) y
   since = kept-trans (turn-later g .extends .kept) kept
 
   first-is : firstUse (treeAt (y .words) (s .function)) ≡ oneUse (wanted s)
   first-is =
       rule-first (y .words) (rule (y .words) (s .function)) (treeAt (y .words) (s .function)) (tree-by fine (s .function) (omega (arith, g .function-in, since .up)))
-      ∙ ap oneUse (same-rule (g .fine) since (s .function) (g .function-in))
+      ∙ ap oneUse (same-rule (y .words) (g .fine) (since .below) (s .function) (g .function-in))
 
-  -- Where the turn leads to o with the uses k, the state before it does with these and the use of its rule, and the other way round.
-  pub leads-before : TurnLeads (y .words) o k ⊥ (turn all s) → Leads (y .words) s o (oneUse (wanted s) ⊕ k)
-  leads-before x =
-      rw (← first-is) (before-use _ k (transport (turn-leads g fine since o k kept) (said (y .words) o k (turn all s) (λ e. absurd e) x)))
+  -- Where the turn goes on so with the uses k, the state before it does with these and the use of its rule.
+  pub goes-before : (App : Applying) (End : Tree → Uses → Type 0) → ((f n : Tree) (P : Tree → Uses → Type 0) (k : Uses) → UseBy App f n P k → App f n P (firstUse f ⊕ k))
+      → (k : Uses) → TurnBy App End (y .words) k ⊥ (turn all s) → GoesBy App End (y .words) s (oneUse (wanted s) ⊕ k)
+  goes-before App End before k x =
+      rw (← first-is) (before _ _ _ k (transport (turn-leads App End g fine since k kept) (said App End (y .words) k (turn all s) (λ e. absurd e) x)))
 
-  pub leads-after : Leads (y .words) s o k → (j : Uses) × TurnLeads (y .words) o j (Unit {0}) (turn all s) × (k ≡ oneUse (wanted s) ⊕ j)
-  leads-after x =
-      let i = first-use x in
-      (i .0, said (y .words) o (i .0) (turn all s) (λ e. tt) (transport⁻¹ (turn-leads g fine since o (i .0) kept) (i .1)), rw first-is at (i .2))
+  module _ (o : Tree) (k : Uses) where
+    -- Where the turn leads to o with the uses k, the state before it does with these and the use of its rule, and the other way round.
+    pub leads-before : TurnLeads (y .words) o k ⊥ (turn all s) → Leads (y .words) s o (oneUse (wanted s) ⊕ k)
+    leads-before = goes-before Then (Comes o) (λ f n P k. before-use f k) k
+
+    pub leads-after : Leads (y .words) s o k → (j : Uses) × TurnLeads (y .words) o j (Unit {0}) (turn all s) × (k ≡ oneUse (wanted s) ⊕ j)
+    leads-after x =
+        let i = first-use x in
+        (i .0, said Then (Comes o) (y .words) (i .0) (turn all s) (λ e. tt) (transport⁻¹ (turn-leads Then (Comes o) g fine since (i .0) kept) (i .1)), rw first-is at (i .2))

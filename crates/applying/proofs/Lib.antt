@@ -4,5 +4,6 @@ pub mod Leads
 pub mod Cases
 pub mod Follows
 pub mod Stops
+pub mod Told
 pub mod Complete
 pub mod Vectors

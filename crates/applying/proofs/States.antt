@@ -18,7 +18,7 @@ use Rattle.table.specs.Claims.{Extends, Places, Has, Makes}
 use Rattle.table.specs.Claims.Makes.{found, made, no-place}
 use Rattle.table.proofs.Words.{sound-node}
 use Rattle.table.proofs.Trees.{extends-refl, extends-trans}
-use Rattle.table.proofs.Making.{make-case, full-case, make-most, stem-of, fork-of}
+use Rattle.table.proofs.Making.{make-case, make-most, stem-of, fork-of}
 use Rattle.applying.specs.declared.Rule.{Rule}
 use Rattle.applying.specs.declared.Rule.the-variants.{Leaf, Stem, Drop, Spread, Triage}
 use Rattle.applying.specs.declared.Frame.{Frame}
@@ -98,10 +98,10 @@ rule-in {t} s f h =
 abbrev pub Ready : ℕ → Turn → Type 0
 Ready all (more z) = Good all z
 Ready all (done p k) = p .node < p .table .used
-Ready all (stop e t) = Unit {0}
+Ready all (stop e z) = Good all z
 
--- What holds of a turn that came from the table t: its table is sound and extends t, a further state is good, and the outcome's node is in
--- use.
+-- What holds of a turn that came from the table t: its table is sound and extends t, a further state and one that stops are good, and the outcome's node is
+-- in use.
 pub record Later (all : ℕ) (t : Table) (x : Turn) : Type 0 where
   pub fine : Sound (tableOf x)
   pub extends : Extends t (tableOf x)
@@ -122,8 +122,8 @@ hold-table all s k e f n = cond-by (λ x. tableOf x ≡ s .table) (ltb (length (
 goes : {all : ℕ} {t : Table} {z : State} → Good all z → Extends t (z .table) → Later all t (more z)
 goes g x = record { fine = g .fine; extends = x; ready = g }
 
-halts : (all : ℕ) {t : Table} (e : Refusal) → Sound t → Later all t (stop e t)
-halts all {t} e f = record { fine = f; extends = extends-refl t; ready = tt }
+halts : {all : ℕ} {s : State} (e : Refusal) → Good all s → Later all (s .table) (stop e s)
+halts {s = s} e g = record { fine = g .fine; extends = extends-refl (s .table); ready = g }
 
 resume-later : {all : ℕ} {t z : Table} → Sound z → Extends t z → (fs : List Frame) (k : Uses) (v : ℕ)
     → FramesIn (z .used) fs → length fs ≤ all → v < z .used → Later all t (resume z fs k v)
@@ -141,11 +141,11 @@ module _ {all : ℕ} {s : State} (g : Good all s) where
   unfolding grow growBy
   grow-later k a b {x} p = go (make (s .table) a b) refl
     where
-      go : (y : Making) → make (s .table) a b ≡ y → Later all (s .table) (growBy (s .frames) k y)
+      go : (y : Making) → make (s .table) a b ≡ y → Later all (s .table) (growBy s k y)
       go (got m) e =
           let q : Places (s .table) m x = p m e in
           resume-later (q .fine) (q .extends) (s .frames) k (m .node) (frames-up (q .extends .kept .up) (s .frames) (g .frames-in)) (g .held-in) (q .inside)
-      go (full z) e = rw (full-case (s .table) a b e .same) (halts all Nodes (g .fine))
+      go (full z) e = halts Nodes g
 
   hold-later : (k : Uses) (e : Frame) (f n : ℕ) → FrameIn (s .table .used) e → f < s .table .used → n < s .table .used → Later all (s .table) (hold all s k e f n)
   unfolding hold
@@ -153,7 +153,7 @@ module _ {all : ℕ} {s : State} (g : Good all s) where
       cond-by (Later all (s .table)) (ltb (length (s .frames)) all)
       (λ b. goes (record { fine = g .fine; function-in = h; argument-in = l; frames-in = (i, g .frames-in); held-in = ltb-true _ _ b })
       (extends-refl (s .table)))
-      (λ b. halts all Frames (g .fine))
+      (λ b. halts Frames g)
 
   in-use : {i : ℕ} → i < s .table .used → Has (s .table) i (treeAt (s .table .words) i)
   in-use h = record { inside = h; tree = refl }
@@ -195,19 +195,19 @@ module _ (all : ℕ) (s : State) (k : Uses) (P : Turn → Type 0) (goes-on : (z 
   resume-by t (SpreadSecond u ∷ fs) v = goes-on _ refl
   resume-by t (TriageFirst q ∷ fs) v = goes-on _ refl
 
-  grow-by : (a b : ℕ) → (find (s .table .words) (s .table .used) a b ≡ none → capacity (s .table .words) ≤ s .table .used → P (stop Nodes (s .table)))
+  grow-by : (a b : ℕ) → (find (s .table .words) (s .table .used) a b ≡ none → capacity (s .table .words) ≤ s .table .used → P (stop Nodes s))
       → P (grow s k a b)
   unfolding grow growBy
   grow-by a b n = go (make-case (s .table) a b)
     where
-      go : {y : Making} → Makes (s .table) a b y → P (growBy (s .frames) k y)
+      go : {y : Making} → Makes (s .table) a b y → P (growBy s k y)
       go (found f) = resume-by _ (s .frames) _
       go (made f h) = resume-by _ (s .frames) _
       go (no-place f h) = n f h
 
   use-by : (r : Rule)
-      → ((a b : ℕ) → WantsNode (s .argument) r a b → find (s .table .words) (s .table .used) a b ≡ none → capacity (s .table .words) ≤ s .table .used → P (stop Nodes (s .table)))
-      → (needsFrame r ≡ true → all ≤ length (s .frames) → P (stop Frames (s .table)))
+      → ((a b : ℕ) → WantsNode (s .argument) r a b → find (s .table .words) (s .table .used) a b ≡ none → capacity (s .table .words) ≤ s .table .used → P (stop Nodes s))
+      → (needsFrame r ≡ true → all ≤ length (s .frames) → P (stop Frames s))
       → P (useRule all s k r)
   unfolding useRule hold needsFrame
   use-by Leaf a b = grow-by (s .argument + 1) 0 (a (s .argument + 1) 0 of-leaf)
@@ -217,8 +217,8 @@ module _ (all : ℕ) (s : State) (k : Uses) (P : Turn → Type 0) (goes-on : (z 
   use-by (Triage p q) a b = cond-by P (ltb (length (s .frames)) all) (λ e. goes-on _ refl) (λ e. b refl (ltb-false _ _ e))
 
 pub turn-by : (all : ℕ) (s : State) (P : Turn → Type 0) → ((z : State) → z .uses ≡ usesNext s → P (more z)) → ((p : Placed) → P (done p (usesNext s)))
-    → ((a b : ℕ) → WantsNode (s .argument) (wanted s) a b → find (s .table .words) (s .table .used) a b ≡ none → capacity (s .table .words) ≤ s .table .used → P (stop Nodes (s .table)))
-    → (needsFrame (wanted s) ≡ true → all ≤ length (s .frames) → P (stop Frames (s .table)))
+    → ((a b : ℕ) → WantsNode (s .argument) (wanted s) a b → find (s .table .words) (s .table .used) a b ≡ none → capacity (s .table .words) ≤ s .table .used → P (stop Nodes s))
+    → (needsFrame (wanted s) ≡ true → all ≤ length (s .frames) → P (stop Frames s))
     → P (turn all s)
 turn-by all s P goes-on ends a b = rw (turn-is all s) (use-by all s (usesNext s) P goes-on ends (wanted s) a b)
 
@@ -226,11 +226,11 @@ turn-by all s P goes-on ends a b = rw (turn-is all s) (use-by all s (usesNext s)
 abbrev pub Took : Uses → Turn → Type 0
 Took k (more z) = z .uses ≡ k
 Took k (done p j) = j ≡ k
-Took k (stop e t) = Unit {0}
+Took k (stop e z) = z .uses ⊕ oneUse (wanted z) ≡ k
 
 -- "Each use of a rule tells which of the five it was." ([5])
 pub turn-took : (all : ℕ) (s : State) → Took (usesNext s) (turn all s)
-turn-took all s = turn-by all s (Took (usesNext s)) (λ z e. e) (λ p. refl) (λ a b n f h. tt) (λ n h. tt)
+turn-took all s = turn-by all s (Took (usesNext s)) (λ z e. e) (λ p. refl) (λ a b n f h. refl) (λ n h. refl)
 
 -- one use of a rule is one step
 pub one-step : (r : Rule) → steps (oneUse r) ≡ 1
@@ -247,7 +247,7 @@ turn-steps all s = go (turn all s) (turn-took all s) (one-step (wanted s))
     go : (x : Turn) → Took (usesNext s) x → steps (oneUse (wanted s)) ≡ 1 → Counted (steps (s .uses)) 1 x
     go (more z) t o = omega (arith, ap steps t)
     go (done p j) t o = omega (arith, ap steps t)
-    go (stop e t) x o = tt
+    go (stop e z) t o = let q = one-step (wanted z) in let i : steps (z .uses) ≡ steps (s .uses) = omega (arith, ap steps t) in (omega arith, omega arith)
 
 -- "Each use is one step, counted when taken": k uses that leave a further application count k steps, and those that come to an outcome count
 -- at least one and at most k.
@@ -259,13 +259,13 @@ uses-steps all (suc k) s = go (turn all s) (turn-steps all s) (uses-steps all k)
     on : (j : ℕ) (x : Turn) → j ≡ steps (s .uses) + 1 → Counted j k x → Counted (steps (s .uses)) (suc k) x
     on j (more y) e c = omega arith
     on j (done p i) e c = omega arith
-    on j (stop e t) q c = tt
+    on j (stop e z) q c = (omega arith, omega arith)
 
     go : (x : Turn) → Counted (steps (s .uses)) 1 x → ((z : State) → Counted (steps (z .uses)) k (uses all k z))
         → Counted (steps (s .uses)) (suc k) (after (uses all k) x)
     go (more z) c r = on (steps (z .uses)) (uses all k z) c (r z)
     go (done p j) c r = omega arith
-    go (stop e t) c r = tt
+    go (stop e z) c r = (omega arith, omega arith)
 
 -- The nodes in use after a turn: "one new node" at most (leaf and stem), or none (drop, spread and triage).
 module _ (all : ℕ) (s : State) where
@@ -276,9 +276,9 @@ module _ (all : ℕ) (s : State) where
   unfolding grow growBy
   grow-grew k a b = go (make (s .table) a b) refl
     where
-      go : (y : Making) → make (s .table) a b ≡ y → Grew 1 (growBy (s .frames) k y)
+      go : (y : Making) → make (s .table) a b ≡ y → Grew 1 (growBy s k y)
       go (got m) e = rw (resume-table (m .table) (s .frames) k (m .node)) (make-most (s .table) a b e)
-      go (full z) e = rw (full-case (s .table) a b e .same) (omega arith)
+      go (full z) e = omega arith
 
   hold-grew : (k : Uses) (e : Frame) (f n : ℕ) → Grew 0 (hold all s k e f n)
   hold-grew k e f n = rw (hold-table all s k e f n) (omega arith)

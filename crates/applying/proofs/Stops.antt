@@ -11,7 +11,7 @@ use lib.ListN.{length}
 use lib.Dec.{ltb}
 use Rattle.calculus.specs.declared.Uses.{Uses}
 use Rattle.calculus.specs.Uses.{noUses}
-use Rattle.table.specs.Nodes.{Table, capacity, find, cleared}
+use Rattle.table.specs.Nodes.{capacity, find, cleared}
 use Rattle.table.specs.Outcome.{Outcome, frames, zeros, whole, stopped}
 use Rattle.table.specs.Refusal.{number, clears}
 use Rattle.table.specs.declared.Refusal.{Refusal}
@@ -33,39 +33,38 @@ use Rattle.applying.proofs.Cases.{Ways, refused, ran, ways, checks-keep
 abbrev Stopped : ℕ → State → Turn → Type 0
 Stopped all s (more z) = Unit {0}
 Stopped all s (done p k) = Unit {0}
-Stopped all s (stop e t) = (t ≡ s .table) × Lacks all s e
+Stopped all s (stop e z) = (z ≡ s) × Lacks all s e
 
 turn-lacks : (all : ℕ) (s : State) → Stopped all s (turn all s)
 turn-lacks all s = turn-by all s (Stopped all s) (λ z e. tt) (λ p. tt) (λ a b n f h. (refl, no-place n f h)) (λ n h. (refl, all-held n h))
 
 -- Applying stops for nodes or frames only at the use that lacks one: "Before each use: [..] 8 if a new node has no place; then 9 if a frame is
--- needed and all are held." The j uses before it were taken, and the table is as they left it.
-pub stop-lacks : (all k : ℕ) (s : State) (e : Refusal) (t : Table) → uses all k s ≡ stop e t
-    → (z : State) × (j : ℕ) × (j < k) × (uses all j s ≡ more z) × (t ≡ z .table) × Lacks all z e
+-- needed and all are held." The j uses before it were taken, and the state is as they left it.
+pub stop-lacks : (all k : ℕ) (s : State) (e : Refusal) (z : State) → uses all k s ≡ stop e z → (j : ℕ) × (j < k) × (uses all j s ≡ more z) × Lacks all z e
 unfolding uses after
-stop-lacks all zero s e t q = let n : _≡_ {A = ℕ} 0 1 = cc in absurd (omega arith)
-stop-lacks all (suc k) s e t q = go (turn all s) refl (turn-lacks all s) (λ z. stop-lacks all k z e t) q
+stop-lacks all zero s e z q = let n : _≡_ {A = ℕ} 0 1 = cc in absurd (omega arith)
+stop-lacks all (suc k) s e z q = go (turn all s) refl (turn-lacks all s) (λ y. stop-lacks all k y e z) q
   where
     go : (x : Turn) → turn all s ≡ x → Stopped all s x
-        → ((z : State) → uses all k z ≡ stop e t → (y : State) × (j : ℕ) × (j < k) × (uses all j z ≡ more y) × (t ≡ y .table) × Lacks all y e)
-        → after (uses all k) x ≡ stop e t
-        → (z : State) × (j : ℕ) × (j < suc k) × (uses all j s ≡ more z) × (t ≡ z .table) × Lacks all z e
-    go (more z) d l r p = let a = r z p in (a .0, suc (a .1), omega (arith, a .2), rw d (a .3), a .4, a .5)
+        → ((y : State) → uses all k y ≡ stop e z → (j : ℕ) × (j < k) × (uses all j y ≡ more z) × Lacks all z e)
+        → after (uses all k) x ≡ stop e z
+        → (j : ℕ) × (j < suc k) × (uses all j s ≡ more z) × Lacks all z e
+    go (more y) d l r p = let a = r y p in (suc (a .0), omega (arith, a .1), rw d (a .2), a .3)
     go (done v j) d l r p = let n : _≡_ {A = ℕ} 0 1 = cc in absurd (omega arith)
     go (stop c y) d l r p =
         let a : c ≡ e = cc in
-        let b : y ≡ t = cc in
-        (s, 0, omega arith, refl, sym b ∙ l .0, rw (← a) (l .1))
+        let b : z ≡ s = cc (l .0) in
+        (0, omega arith, ap more (sym b), rw (← a, b) (l .1))
 
 -- And a use that lacks one is not taken.
 module _ (all : ℕ) (z : State) where
   node-lacks : (k : Uses) (r : Rule) {a b : ℕ} → WantsNode (z .argument) r a b → find (z .table .words) (z .table .used) a b ≡ none
-      → capacity (z .table .words) ≤ z .table .used → useRule all z k r ≡ stop Nodes (z .table)
+      → capacity (z .table .words) ≤ z .table .used → useRule all z k r ≡ stop Nodes z
   unfolding useRule grow growBy
   node-lacks k Leaf of-leaf f h = rw (make-full (z .table) (z .argument + 1) 0 f h)
   node-lacks k (Stem p) of-stem f h = rw (make-full (z .table) (p + 1) (z .argument + 1) f h)
 
-  frame-lacks : (k : Uses) (r : Rule) → needsFrame r ≡ true → all ≤ length (z .frames) → useRule all z k r ≡ stop Frames (z .table)
+  frame-lacks : (k : Uses) (r : Rule) → needsFrame r ≡ true → all ≤ length (z .frames) → useRule all z k r ≡ stop Frames z
   unfolding useRule hold needsFrame
   frame-lacks k Leaf n h = told-apart n refl
   frame-lacks k (Stem p) n h = told-apart n refl
@@ -73,7 +72,7 @@ module _ (all : ℕ) (z : State) where
   frame-lacks k (Spread p y) n h = rw (le-ltb (length (z .frames)) all h)
   frame-lacks k (Triage p q) n h = rw (le-ltb (length (z .frames)) all h)
 
-  pub lacks-stop : {e : Refusal} → Lacks all z e → turn all z ≡ stop e (z .table)
+  pub lacks-stop : {e : Refusal} → Lacks all z e → turn all z ≡ stop e z
   lacks-stop (no-place n f h) = turn-is all z ∙ node-lacks (usesNext z) (wanted z) n f h
   lacks-stop (all-held n h) = turn-is all z ∙ frame-lacks (usesNext z) (wanted z) n h
 
@@ -110,8 +109,8 @@ module _ (w : List ℕ) (u : ℕ) (s : List ℕ) (f n limit : ℕ) where
       b : State
       b = begin w u f n
 
-      words : {z : Table} → Later all (b .table) (stop e z) → z .used ≡ tableOf (uses all limit b) .used
-          → cleared (z .words) (u * 2) (z .used * 2) ≡ cleared w (u * 2) (tableOf (uses all limit b) .used * 2)
+      words : {x : Turn} → Later all (b .table) x → tableOf x .used ≡ tableOf (uses all limit b) .used
+          → cleared (tableOf x .words) (u * 2) (tableOf x .used * 2) ≡ cleared w (u * 2) (tableOf (uses all limit b) .used * 2)
       words y m = cleared-back (y .extends) (y .fine .within) ∙ rw m
 
       by : (x : Turn) → uses all limit b ≡ x → Later all (b .table) x → Counted 0 limit x → settle u s x .answer ≡ Refused e
@@ -119,12 +118,12 @@ module _ (w : List ℕ) (u : ℕ) (s : List ℕ) (f n limit : ℕ) where
           → ApplyLacks w u s f n limit e (settle u s x .table) (settle u s x .stack)
       by (more z) r y c p k =
           let a : Steps ≡ e = cc in
-          rw (words (record { fine = y .fine; extends = y .extends; ready = tt }) (rw r), ← a) (k Steps (limit-reached r (omega arith)))
+          rw (words y (rw r), ← a) (k Steps (limit-reached r (omega arith)))
       by (done v j) r y c p k = let n : _≡_ {A = ℕ} 0 1 = cc in absurd (omega arith)
       by (stop d t) r y c p k =
           let a : d ≡ e = cc in
           let l = stop-lacks all limit b d t r in
-          rw (words (record { fine = y .fine; extends = y .extends; ready = tt }) (rw r), ← a) (k d (at-use (l .2) (l .3) (l .5)))
+          rw (words y (rw r), ← a) (k d (at-use (l .1) (l .2) (l .3)))
 
       go : Ways w u s f n limit → ApplyLacks w u s f n limit e (apply w u s f n limit .table) (apply w u s f n limit .stack)
       go (refused {e = d} a p) = let c : d ≡ e = cc in rw (p, ← c) (at-entry a)

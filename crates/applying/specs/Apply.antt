@@ -27,7 +27,7 @@ appliedUses (Refused e) = noUses
 unfoldable pub settle : ℕ → List ℕ → Turn → Outcome Applied
 settle u s (more z) = stopped (Refused Steps) (z .table) u s
 settle u s (done p k) = whole (Node (p .node) (p .table .used) (steps k) k) (p .table .words) (zeros s)
-settle u s (stop e t) = stopped (Refused e) t u s
+settle u s (stop e z) = stopped (Refused e) (z .table) u s
 
 -- node f is to be applied to node n
 abbrev pub begin : List ℕ → ℕ → ℕ → ℕ → State

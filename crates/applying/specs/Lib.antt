@@ -2,5 +2,6 @@
 pub mod Machine
 pub mod States
 pub mod Apply
+pub mod Ended
 pub mod Lacks
 pub mod Claims

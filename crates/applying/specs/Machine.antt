@@ -43,11 +43,12 @@ pub record State : Type 0 where
   pub frames : List Frame
   pub uses : Uses
 
--- What a use leads to: a further application, the outcome's node with the uses, or a stop for what the use lacks.
+-- What a use leads to: a further application, the outcome's node with the uses, or a stop for what the use lacks, in the state that wanted it ("which of the
+-- five rules was wanted", [14]).
 pub data Turn : Type 0 where
   more : State → Turn
   done : Placed → Uses → Turn
-  stop : Refusal → Table → Turn
+  stop : Refusal → State → Turn
 
 -- The last application gave node v after the uses k: what the last frame held takes it on. "Spread holds one frame during its first two
 -- applications, triage during its first. The last application of each holds none."
@@ -59,12 +60,12 @@ resume t (TriageFirst q ∷ fs) k v = more (record { table = t; function = v; ar
 
 -- "then 8 if a new node has no place"; "8 comes only when a node not yet in the table is wanted and the table is full" ([8]): the outcome is the node with
 -- the words a and b; k are the uses with this one
-unfoldable pub growBy : List Frame → Uses → Making → Turn
-growBy fs k (got m) = resume (m .table) fs k (m .node)
-growBy fs k (full t) = stop Nodes t
+unfoldable pub growBy : State → Uses → Making → Turn
+growBy s k (got m) = resume (m .table) (s .frames) k (m .node)
+growBy s k (full t) = stop Nodes s
 
 unfoldable pub grow : State → Uses → ℕ → ℕ → Turn
-grow s k a b = growBy (s .frames) k (make (s .table) a b)
+grow s k a b = growBy s k (make (s .table) a b)
 
 -- "then 9 if a frame is needed and all are held": node f is applied to node n, and the frame e is held meanwhile; k are the uses with
 -- this one
@@ -72,7 +73,7 @@ unfoldable pub hold : ℕ → State → Uses → Frame → ℕ → ℕ → Turn
 hold all s k e f n =
     cond (ltb (length (s .frames)) all)
     (more (record { table = s .table; function = f; argument = n; frames = e ∷ s .frames; uses = k }))
-    (stop Frames (s .table))
+    (stop Frames s)
 
 -- One use of a rule, where `all` frames are lent; k are the uses with this one.
 unfoldable pub useRule : ℕ → State → Uses → Rule → Turn
@@ -100,7 +101,7 @@ turn all s = takeRule all s (wanted s)
 unfoldable pub after : (State → Turn) → Turn → Turn
 after go (more s) = go s
 after go (done p k) = done p k
-after go (stop e t) = stop e t
+after go (stop e s) = stop e s
 
 -- at most k uses: a further application is left where all k were taken
 unfoldable pub uses : ℕ → ℕ → State → Turn

@@ -44,10 +44,10 @@ TreeBy w (Triage p q) x = (y : Tree) × (x ≡ fork (fork (treeAt w p) (treeAt w
 abbrev pub tableOf : Turn → Table
 tableOf (more z) = z .table
 tableOf (done p k) = p .table
-tableOf (stop e t) = t
+tableOf (stop e z) = z .table
 
 -- "Each use is one step, counted when taken": the steps of a turn after at most k uses, where `from` were counted before.
 abbrev pub Counted : ℕ → ℕ → Turn → Type 0
 Counted from k (more z) = steps (z .uses) ≡ from + k
 Counted from k (done p j) = (from < steps j) × (steps j ≤ from + k)
-Counted from k (stop e t) = Unit {0}
+Counted from k (stop e z) = (from ≤ steps (z .uses)) × (steps (z .uses) < from + k)

@@ -1,5 +1,5 @@
 // The five rules on a table, one use at a time, and Apply as a definition, in specs/, and their theorems, in proofs/. Its code is in the crates
-// `frames`, `rules`, `machine` and `apply`.
+// `wanted`, `frames`, `rules`, `machine` and `apply`.
 use calculus::Uses;
 use table::Refusal;
 
@@ -20,6 +20,21 @@ pub enum Frame {
     SpreadSecond(usize),
     // triage, while N is applied to p: q
     TriageFirst(usize),
+}
+
+// How an application ends: as Apply answers, and for a stop with the steps taken before it and the rule that was wanted ([14]).
+pub enum Ended {
+    Node {
+        node: usize,
+        used: usize,
+        steps: usize,
+        uses: Uses,
+    },
+    Stopped {
+        refusal: Refusal,
+        steps: usize,
+        rule: Rule,
+    },
 }
 
 // Apply's answer: the outcome's node, the new count of used nodes, the steps, and the uses of each rule.

@@ -32,6 +32,6 @@ unfolding rows size
     machine.forkRule machine.rule machine.resume machine.growBy machine.grow machine.hold machine.useRule machine.takeRule machine.turn machine.after machine.uses
     apply.settle apply.applyNodes apply.apply
     packet.before packet.fields packet.highFirst packet.withArgument packet.afterLimit packet.afterArguments packet.afterRule packet.fromFields packet.packet packet.fieldBytes packet.argumentBytes
-    run.ranNumbers run.stopped run.afterMade run.afterApplied run.afterWritten run.writes run.applies run.reads run.stages run.allReadable run.labelTexts run.partsLack run.runPacket run.lengthsFit run.run
+    run.ranNumbers run.stopped run.afterMadeBy run.afterApplied run.afterWritten run.writes run.applies run.readsBy run.stages run.allReadable run.labelTexts run.partsLack run.runPacket run.lengthsFit run.run
     examples.afterMade examples.afterApplied examples.applyLine examples.readAll examples.place examples.taken examples.runLine examples.line
 starred = refl

@@ -5,9 +5,9 @@ use mathlib.Core.Path.{_≡_, ap, _∙_}
 use mathlib.Core.List.{List}
 use Rattle.calculus.specs.declared.Uses.{Uses}
 use Rattle.table.specs.Refusal.{Numbers}
-use Rattle.table.specs.Outcome.{Outcome, wholeOut}
+use Rattle.table.specs.Outcome.{Outcome, wholeOut, answered}
 use Rattle.answers.specs.Listed.{listed, listedUses}
-use Rattle.ffi.specs.Boundary.{answered, numbered, counted}
+use Rattle.ffi.specs.Boundary.{numbered, counted}
 
 pub is-answered : {A : Type 0} (numbers : A → List ℕ) {a : A} {l w s b : List ℕ} {o : Outcome A}
     → l ≡ numbers a → wholeOut a w s b ≡ o → wholeOut l w s b ≡ answered numbers o

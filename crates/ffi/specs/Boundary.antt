@@ -3,14 +3,10 @@ use Prim.Native.Nat.{ℕ}
 use mathlib.Core.List.{List}
 use Rattle.calculus.specs.declared.Uses.{Uses}
 use Rattle.table.specs.Refusal.{Numbers}
-use Rattle.table.specs.Outcome.{Outcome, wholeOut}
+use Rattle.table.specs.Outcome.{Outcome, answered}
 use Rattle.answers.specs.Listed.{listed, listedUses}
 
--- an operation's outcome, with its answer as a list of numbers
-abbrev pub answered : {A : Type 0} → (A → List ℕ) → Outcome A → Outcome (List ℕ)
-answered numbers o = wholeOut (numbers (o .answer)) (o .table) (o .stack) (o .out)
-
--- the same, with the five numbers
+-- an operation's outcome, with its answer as the list of its five numbers
 abbrev pub numbered : {A : Type 0} → (A → Numbers) → Outcome A → Outcome (List ℕ)
 numbered numbers o = answered (λ a. listed (numbers a)) o
 

@@ -5,7 +5,7 @@
 ghost use mathlib.Core.Path.{_≡_};
 ghost use mathlib.Core.List.{[]};
 ghost use Rattle.table.specs.Refusal.{madeNumbers};
-ghost use Rattle.table.specs.Outcome.{whole, wholeOut};
+ghost use Rattle.table.specs.Outcome.{whole, wholeOut, answered};
 ghost use Rattle.table.specs.Same as comparing;
 ghost use Rattle.ternary.specs.Read as reading;
 ghost use Rattle.ternary.specs.Write as writing;
@@ -15,8 +15,9 @@ ghost use Rattle.labelled.specs.Label as labelling;
 ghost use Rattle.labelling.specs.LabelPacket.{labelPacket};
 ghost use Rattle.labelled.specs.Unlabel as unlabelling;
 ghost use Rattle.running.specs.Run as running;
+ghost use Rattle.stopping.specs.Stopped as stopping;
 ghost use Rattle.grammar.specs.Outcome as grammar;
-ghost use Rattle.ffi.specs.Boundary.{numbered, answered, counted};
+ghost use Rattle.ffi.specs.Boundary.{numbered, counted};
 
 // Reads a text into the table.
 #[no_mangle]
@@ -115,6 +116,23 @@ pub extern "C" fn lazvorn_run(
 {
     let result = run::run(table, stack, out, packet);
     *answer = counted::ran(result);
+}
+
+// Runs a packet with the table taken as empty, and gives where applying stopped. The answer is four numbers: refusal, the argument's place, the steps of the
+// whole run, and the rule wanted, from 1 for leaf to 5 for triage; for every outcome that is no stop while applying the last three are 0.
+#[no_mangle]
+pub extern "C" fn lazvorn_stopped(
+    table: &mut [u32],
+    stack: &mut [u32],
+    out: &mut [u8],
+    packet: &[u8],
+    answer: &mut [usize; 4],
+)
+    ensures { λ _. ⌜ wholeOut (now (answer .exit)) (now (table .exit)) (now (stack .exit)) (now (out .exit))
+        ≡ answered stopping.stoppedNumbers (stopping.stopped (now (table .entry)) (now (stack .entry)) (now (out .entry)) (now (packet .entry))) ⌝ }
+{
+    let result = stops::stopped(table, stack, out, packet);
+    *answer = stops::numbers(result);
 }
 
 // Writes the labelled rule of a packet, with the table taken as empty. The answer is five numbers; node and steps are 0.

@@ -43,7 +43,7 @@ module _ (s w : List ℕ) (u d : ℕ) (k : Uses) (v : ℕ) where
 
 -- a frame is free or not
 module _ (m : Machine) (k : Uses) (w s : List ℕ) (e : Frame) (f n : ℕ) where
-  pub hold-full : frames s ≤ m .held → stop Frames (record { words = w; used = m .used }) ≡ hold (frames s) (stateOf m w s) k e f n
+  pub hold-full : frames s ≤ m .held → stop Frames (stateOf m w s) ≡ hold (frames s) (stateOf m w s) k e f n
   unfolding hold
   hold-full h = rw (length-frames s (m .held), le-ltb (m .held) (frames s) h)
 

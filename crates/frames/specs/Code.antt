@@ -52,8 +52,8 @@ stateOf m w s =
 abbrev pub endOf : End → Machine → List ℕ → List ℕ → Turn
 endOf ended.More m w s = more (stateOf m w s)
 endOf ended.Done m w s = done (record { table = record { words = w; used = m .used }; node = m .function }) (usesOf m)
-endOf ended.Nodes m w s = stop Nodes (record { words = w; used = m .used })
-endOf ended.Frames m w s = stop Frames (record { words = w; used = m .used })
+endOf ended.Nodes m w s = stop Nodes (stateOf m w s)
+endOf ended.Frames m w s = stop Frames (stateOf m w s)
 
 abbrev pub turnOf : Turned → List ℕ → List ℕ → Turn
 turnOf r w s = endOf (r .end) (r .state) w s

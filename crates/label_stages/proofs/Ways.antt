@@ -13,7 +13,7 @@ use Rattle.ternary.specs.Read.{readable, readTree}
 use Rattle.translation.specs.Translate.{translateRule}
 use Rattle.labelled.specs.Label.{labelRule, label}
 use Rattle.labelled.proofs.Labels.{label-gives, entered-label}
-use Rattle.running.specs.Run.{stopped, afterMade, writes}
+use Rattle.running.specs.Run.{stopped, afterMadeBy, writes}
 use Rattle.running.specs.declared.Ran.{Ran}
 use Rattle.endings.specs.Ready.{Ready}
 use Rattle.endings.proofs.Ways.{is-translate, is-read}
@@ -27,11 +27,11 @@ module _ {w : List ℕ} {u : ℕ} {s o : List ℕ} {f t : ℕ} (r : Ready w u s 
   is-label = e ∙ entered-label (record { table = r .fine; stack = omega arith; limits-kept = refl }) hf ht
 
   pub labels-stop : {x : Outcome Ran} {c : Refusal} → a ≡ made.Refused c → x ≡ stopped c z u s o → x ≡ labels w u s o f t
-  unfolding labels afterMade
+  unfolding labels afterMadeBy
   labels-stop q g = rw (← is-label, q) g
 
   pub labels-next : {n u′ : ℕ} → a ≡ made.Node n u′ → {x : Outcome Ran} → x ≡ writes z u′ s o n noUses → x ≡ labels w u s o f t
-  unfolding labels afterMade
+  unfolding labels afterMadeBy
   labels-next q g = rw (← is-label, q) g
 
   pub labels-ready : {n u′ : ℕ} → a ≡ made.Node n u′ → Ready z u′ s o × (n < u′)
@@ -44,20 +44,20 @@ module _ {w : List ℕ} {u : ℕ} {s o : List ℕ} {f t : ℕ} (r : Ready w u s 
 
 module _ {w : List ℕ} {u : ℕ} {s o : List ℕ} (f : ℕ) (r : Ready w u s o) (v : List ℕ) {a : Made} {z y : List ℕ} (e : whole a z y ≡ readTree w u s v (readable v)) where
   pub reads-stop : {x : Outcome Ran} {c : Refusal} → a ≡ made.Refused c → x ≡ stopped c z u y o → x ≡ readsLabel w u s o f v
-  unfolding readsLabel afterMade
+  unfolding readsLabel afterMadeBy
   reads-stop q g = rw (← is-read r v e, q) g
 
   pub reads-next : {n u′ : ℕ} → a ≡ made.Node n u′ → {x : Outcome Ran} → x ≡ labels z u′ y o f n → x ≡ readsLabel w u s o f v
-  unfolding readsLabel afterMade
+  unfolding readsLabel afterMadeBy
   reads-next q g = rw (← is-read r v e, q) g
 
 -- ---- Translate
 
 module _ {w s o : List ℕ} (r : Ready w 0 s o) (b v : List ℕ) {a : Made} {z y : List ℕ} (e : whole a z y ≡ translateRule w 0 s (rule b)) where
   pub stages-stop : {x : Outcome Ran} {c : Refusal} → a ≡ made.Refused c → x ≡ stopped c z 0 y o → x ≡ labelStages w s o b v
-  unfolding labelStages afterMade
+  unfolding labelStages afterMadeBy
   stages-stop q g = rw (← is-translate r b e, q) g
 
   pub stages-next : {n u : ℕ} → a ≡ made.Node n u → {x : Outcome Ran} → x ≡ readsLabel z u y o n v → x ≡ labelStages w s o b v
-  unfolding labelStages afterMade
+  unfolding labelStages afterMadeBy
   stages-next q g = rw (← is-translate r b e, q) g

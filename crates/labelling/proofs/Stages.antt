@@ -28,7 +28,7 @@ use Rattle.labelled.specs.Label.{labelled, nodes, label}
 use Rattle.labelled.specs.Claims.{LabelLacks, at-entry, not-in-use, no-nodes, Labels}
 use Rattle.labelled.proofs.Labels.{label-gives}
 use Rattle.labelled.proofs.Lacks.{label-lacks}
-use Rattle.running.specs.Run.{afterMade, writes}
+use Rattle.running.specs.Run.{afterMadeBy, afterMade, writes}
 use Rattle.running.specs.Claims.{Fit, TranslateHad, ReadsHad, all-read, and-read}
 use Rattle.running.specs.declared.Ran.{Ran}
 use Rattle.running.specs.declared.Ran.the-variants.{Text}
@@ -62,7 +62,7 @@ module _ {w s o : List ℕ} (fit : Fit w s o) (t : Term) (v : List ℕ) (x : Tre
   -- Label, Write
   labels-staged : {z : Table} {y : List ℕ} → Stands w s z y → {r : Placed} {n : ℕ} → Has z (r .node) (ruleTree t) → Has z n x → z .used ≤ size (ruleTree t) + length v
       → TranslateHad w s t r → ReadsHad s (r .table) (v ∷ []) z (n ∷ []) → LabelStaged w s o t v x (labels (z .words) (z .used) y o (r .node) n)
-  unfolding labels afterMade
+  unfolding labels afterMadeBy
   labels-staged {z} {y} st {r = p} {n = n} hf hn used had read-all = go (r .answer) refl
     where
       f : ℕ
@@ -121,7 +121,7 @@ module _ {w s o : List ℕ} (fit : Fit w s o) (t : Term) (v : List ℕ) (x : Tre
   -- Read of the label
   reads-staged : readable v ≡ some x → {p : Placed} {y : List ℕ} → Stands w s (p .table) y → Has (p .table) (p .node) (ruleTree t) → p .table .used ≤ size (ruleTree t) → TranslateHad w s t p
       → LabelStaged w s o t v x (readsLabel (p .table .words) (p .table .used) y o (p .node) v)
-  unfolding readsLabel afterMade
+  unfolding readsLabel afterMadeBy
   reads-staged is {p} {y} st hf used had = go (reading fit st v x is)
     where
       z : Table
@@ -139,7 +139,7 @@ module _ {w s o : List ℕ} (fit : Fit w s o) (t : Term) (v : List ℕ) (x : Tre
 
   -- "Translate, Read of the label, Label, Write" ([1])
   pub label-staged : (b : List ℕ) → rule b ≡ some t → readable v ≡ some x → LabelStaged w s o t v x (labelStages w s o b v)
-  unfolding labelStages afterMade
+  unfolding labelStages afterMadeBy
   label-staged b is-rule is = go (translating fit b t is-rule)
     where
       r : Outcome Made

@@ -1,6 +1,6 @@
 // Apply on a table that is known to be sound: uses of the five rules up to a limit, and how they end. The definitions and the laws that callers cite are in
 // the crate `applying`; one use is in the crate `rules`.
-use applying::Applied;
+use applying::Ended;
 use calculus::Uses;
 use frames::End;
 use frames::Machine;
@@ -8,17 +8,16 @@ use frames::Turned;
 use table::Refusal;
 ghost use mathlib.Core.Path.{_≡_};
 ghost use Prim.Native.Nat.{_+_, _*_, _≤_, _<_};
-ghost use lib.ListN.{length};
 ghost use Rattle.calculus.specs.Uses.{steps};
-ghost use Rattle.table.specs.Nodes.{cleared};
+ghost use Rattle.table.specs.Nodes.{Sound, cleared};
 ghost use Rattle.table.specs.Outcome.{whole, frames};
-ghost use Rattle.applying.specs.Machine.{uses};
-ghost use Rattle.applying.specs.Apply.{settle, applyNodes};
+ghost use Rattle.applying.specs.Machine.{rule, uses};
+ghost use Rattle.applying.specs.Ended.{ended, applyEnded};
 ghost use Rattle.applying.specs.States.{Good};
 ghost use Rattle.frames.specs.Code.{usesOf, stateOf, turnOf};
 ghost use Rattle.index.specs.Index.{Ready};
 ghost use Rattle.rules.specs.Code.{ReadyTurned};
-ghost use Rattle.machine.specs.Code.{ReadyApplied};
+ghost use Rattle.machine.specs.Code.{ReadyEnded};
 
 // At most `budget` uses of the rules; a further application is left where all of them were taken.
 fn uses(
@@ -49,19 +48,34 @@ fn uses(
     }
 }
 
-// A stop: the words of the nodes that were made are cleared.
-fn undo(table: &mut [u32], used: usize, used_now: usize, refusal: Refusal) -> Applied
-    requires { ⌜ (used ≤ «used_now») × («used_now» * 2 ≤ length (now table)) ⌝ }
-    ensures { λ r. ⌜ (r ≡ Applied.Refused refusal) × (now (table .exit) ≡ cleared (now (table .entry)) (used * 2) («used_now» * 2)) ⌝ }
+// A stop: the rule that is wanted is read, and then the words of the nodes that were made are cleared.
+fn undo(table: &mut [u32], used: usize, state: Machine, refusal: Refusal) -> Ended
+    requires { ⌜ (used ≤ state .used) × Sound (record { words = now table; used = state .used }) × (state .function < state .used) × (steps (usesOf state) ≤ 1000000) ⌝ }
+    ensures { λ r. ⌜ (r ≡ Ended.Stopped refusal (steps (usesOf state)) (rule (now (table .entry)) (state .function)))
+        × (now (table .exit) ≡ cleared (now (table .entry)) (used * 2) (state .used * 2)) ⌝ }
 {
-    nodes::clear(table, used * 2, used_now * 2);
-    Applied::Refused(refusal)
+    let rule = wanted::wanted(table, state.function);
+    let uses = Uses {
+        leaf: state.leaf,
+        stem: state.stem,
+        drop: state.drop,
+        spread: state.spread,
+        triage: state.triage,
+    };
+    let steps = counts::sum(uses);
+    nodes::clear(table, used * 2, state.used * 2);
+    Ended::Stopped {
+        refusal: refusal,
+        steps: steps,
+        rule: rule,
+    }
 }
 
 // The answer where an application ends that had `used` nodes in use at entry. The stack is cleared, and after a refusal the new nodes too.
-fn settle(table: &mut [u32], stack: &mut [u32], used: usize, turned: Turned) -> Applied
-    requires { ⌜ (used ≤ turned .state .used) × (turned .state .used * 2 ≤ length (now table)) × (turned .end ≡ End.Done → steps (usesOf (turned .state)) ≤ 1000000) ⌝ }
-    ensures { λ r. ⌜ whole r (now (table .exit)) (now (stack .exit)) ≡ settle used (now (stack .entry)) (turnOf turned (now (table .entry)) (now (stack .entry))) ⌝ }
+fn settle(table: &mut [u32], stack: &mut [u32], used: usize, turned: Turned) -> Ended
+    requires { ⌜ (used ≤ turned .state .used) × Sound (record { words = now table; used = turned .state .used }) × (turned .state .function < turned .state .used)
+        × (steps (usesOf (turned .state)) ≤ 1000000) ⌝ }
+    ensures { λ r. ⌜ whole r (now (table .exit)) (now (stack .exit)) ≡ ended used (now (stack .entry)) (turnOf turned (now (table .entry)) (now (stack .entry))) ⌝ }
 {
     let len = stack.len();
     nodes::clear(stack, 0, len);
@@ -75,15 +89,15 @@ fn settle(table: &mut [u32], stack: &mut [u32], used: usize, turned: Turned) -> 
         triage: state.triage,
     };
     match end {
-        End::More => undo(table, used, state.used, Refusal::Steps),
-        End::Done => Applied::Node {
+        End::More => undo(table, used, state, Refusal::Steps),
+        End::Done => Ended::Node {
             node: state.function,
             used: state.used,
             steps: counts::sum(uses),
             uses: uses,
         },
-        End::Nodes => undo(table, used, state.used, Refusal::Nodes),
-        End::Frames => undo(table, used, state.used, Refusal::Frames),
+        End::Nodes => undo(table, used, state, Refusal::Nodes),
+        End::Frames => undo(table, used, state, Refusal::Frames),
     }
 }
 
@@ -97,9 +111,9 @@ pub fn apply_nodes(
     limit: usize,
     index: &mut [u16],
     slots: usize,
-) -> Applied
+) -> Ended
     requires { ⌜ Ready (now table) used slots (now index) × (function < used) × (argument < used) × (limit ≤ 1000000) ⌝ }
-    ensures { λ r. ⌜ (whole r (now (table .exit)) (now (stack .exit)) ≡ applyNodes (now (table .entry)) used (now (stack .entry)) function argument limit) × ReadyApplied r (now (table .exit)) slots (now (index .exit)) ⌝ }
+    ensures { λ r. ⌜ (whole r (now (table .exit)) (now (stack .exit)) ≡ applyEnded (now (table .entry)) used (now (stack .entry)) function argument limit) × ReadyEnded r (now (table .exit)) slots (now (index .exit)) ⌝ }
 {
     let begun = Machine {
         used: used,

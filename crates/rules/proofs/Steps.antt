@@ -62,7 +62,7 @@ use-ready r w y all m k d n e h = ready-turned r w y e (ap (λ (t : Table). t .u
 
 -- the node is there, or a place for it is free or not
 module _ (m : Machine) (k : Uses) (w s : List ℕ) (a b : ℕ) {g : Got} (z : List ℕ) (e : gotBy g z ≡ make (record { words = w; used = m .used }) a b) where
-  pub grow-full : g ≡ gets.Full → stop Nodes (record { words = z; used = m .used }) ≡ grow (stateOf m w s) k a b
+  pub grow-full : g ≡ gets.Full → stop Nodes (stateOf m z s) ≡ grow (stateOf m w s) k a b
   unfolding grow growBy gotBy
   grow-full q =
       let f = full-case (record { words = w; used = m .used }) a b (sym (rw q at e)) in
@@ -79,12 +79,9 @@ module _ (m : Machine) (k : Uses) (w s : List ℕ) (a b : ℕ) {g : Got} (z : Li
     unfolding gotBy
     got-word h s o = let l = make-places s a b o (sym (rw q at e)) in omega (arith, l .inside, h .fine .within, h .fine .short)
 
--- the node applied and its first branch lie in the table
-pub reach : (m : Machine) (w s : List ℕ) → Good (frames s) (stateOf m w s)
-    → (m .function * 2 + 1 < length w) × ((first w (m .function) - 1) * 2 + 1 < length w)
-reach m w s g =
-    let a = sound-node w (m .used) (m .function) (g .function-in) (g .fine .unbroken) in
-    (omega (arith, g .function-in, g .fine .within), omega (arith, a .first-in, g .function-in, g .fine .within))
+-- a node in use and its first branch lie in the table
+pub reach : {w : List ℕ} {u f : ℕ} → Sound (record { words = w; used = u }) → f < u → (f * 2 + 1 < length w) × ((first w f - 1) * 2 + 1 < length w)
+reach {w} {u} {f} s h = let a = sound-node w u f h (s .unbroken) in (omega (arith, s .within), omega (arith, a .first-in, s .within))
 
 -- What the code of a rule asks of the numbers that it takes on: the frames held lie in the stack, and the nodes named are in use and fit a word.
 pub record Asks (m : Machine) (s : List ℕ) (r : Rule) : Type 0 where

@@ -1,5 +1,5 @@
 // One use of the five rules on a table. The definitions and the laws that callers cite are in the crate `applying`; the state and the frames are
-// those of the crate `frames`.
+// those of the crate `frames`, and which rule is wanted is told by the crate `wanted`.
 use applying::Frame;
 use applying::Rule;
 use calculus::Uses;
@@ -8,49 +8,16 @@ use frames::Machine;
 use frames::Turned;
 use index::Got;
 ghost use mathlib.Core.Path.{_≡_};
-ghost use Prim.Native.Nat.{_+_, _-_, _*_, _≤_, _<_};
+ghost use Prim.Native.Nat.{_*_, _≤_, _<_};
 ghost use lib.ListN.{length};
 ghost use Rattle.calculus.specs.Uses.{steps};
-ghost use Rattle.table.specs.Nodes.{first};
 ghost use Rattle.table.specs.Outcome.{frames};
 ghost use Rattle.table.specs.Claims.{Unbroken};
 ghost use Rattle.index.specs.Index.{Ready};
-ghost use Rattle.applying.specs.Machine.{forkRule, rule, grow, turn};
+ghost use Rattle.applying.specs.Machine.{grow, turn};
 ghost use Rattle.applying.specs.States.{Good};
 ghost use Rattle.frames.specs.Code.{usesOf, stateOf, turnOf};
 ghost use Rattle.rules.specs.Code.{ReadyTurned};
-
-// The rule for a fork with the branches x and y.
-fn fork_rule(table: &[u32], x: usize, y: usize) -> Rule
-    requires { ⌜ x * 2 + 1 < length (now table) ⌝ }
-    ensures { λ r. ⌜ r ≡ forkRule (now (table .entry)) x y ⌝ }
-{
-    let a = nodes::word(table, x * 2);
-    if a == 0 {
-        return Rule::Drop(y);
-    }
-    let b = nodes::word(table, x * 2 + 1);
-    if b == 0 {
-        return Rule::Spread(a - 1, y);
-    }
-    Rule::Triage(a - 1, b - 1)
-}
-
-// The rule that applying a node takes.
-fn wanted(table: &[u32], function: usize) -> Rule
-    requires { ⌜ (function * 2 + 1 < length (now table)) × ((first (now table) function - 1) * 2 + 1 < length (now table)) ⌝ }
-    ensures { λ r. ⌜ r ≡ rule (now (table .entry)) function ⌝ }
-{
-    let a = nodes::word(table, function * 2);
-    if a == 0 {
-        return Rule::Leaf;
-    }
-    let b = nodes::word(table, function * 2 + 1);
-    if b == 0 {
-        return Rule::Stem(a - 1);
-    }
-    fork_rule(table, a - 1, b - 1)
-}
 
 // The outcome is the node with the words a and b, if it is there or has a place. The uses are those with this one.
 fn grow(
@@ -95,7 +62,7 @@ pub fn turn(
         spread: state.spread,
         triage: state.triage,
     };
-    let rule = wanted(table, state.function);
+    let rule = wanted::wanted(table, state.function);
     match rule {
         Rule::Leaf => {
             uses.leaf += 1;

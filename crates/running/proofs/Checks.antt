@@ -11,18 +11,19 @@ use borrow.Author.Tests.{leb-true, le-leb}
 use Rattle.calculus.specs.Tree.{Tree}
 use Rattle.calculus.specs.Term.{Term}
 use Rattle.calculus.specs.Bytes.{rule}
-use Rattle.table.specs.Outcome.{wholeOut}
+use Rattle.table.specs.Outcome.{wholeOut, answered}
 use Rattle.table.specs.declared.Refusal.{Refusal}
 use Rattle.table.specs.declared.Refusal.the-variants as refusal
 use Rattle.table.proofs.Words.{and-left, and-right, zero-one}
 use Rattle.ternary.specs.Read.{readable}
 use Rattle.fields.specs.Packet.{Packet, packet}
 use Rattle.running.specs.Run.{allReadable, labelTexts, texts, partsLack, runPacket, lengthsFit, run}
+use Rattle.running.specs.Tell.{told, tellPacket, tell}
 use Rattle.running.specs.Claims.{Fit, Unreadable, here, there, LabelReads, no-label, label-of, Checked, Refuses}
 use Rattle.running.specs.Claims as refuses
 use Rattle.running.specs.declared.Ran.the-variants.{Refused}
 use Rattle.running.proofs.Limit.{packet-limit}
-use Rattle.running.proofs.Outcomes.{Staged}
+use Rattle.running.proofs.Outcomes.{Staged, Tells}
 use Rattle.running.proofs.Stages.{stages-staged}
 
 pub fit-true : {w s o : List ℕ} → Fit w s o → lengthsFit w s o ≡ true
@@ -144,12 +145,15 @@ module _ {w s o : List ℕ} (l : List ℕ) where
     unfolding run runPacket
     run-bad-text {p} e q u = rw (fit-true fit, e, texts-lack p q u)
 
--- "Then Translate, Read of each argument, Apply in order under one step limit, Write, each with its 7 to 10.": what the stages come to.
-pub run-checked : {w s o l : List ℕ} {p : Packet} {t : Term} {args : List Tree} → Checked w s o l p t args → Staged w s o p t args (run w s o l)
-unfolding run runPacket
-run-checked {l = l} {p = p} {t = t} {args = args} c =
+-- "Then Translate, Read of each argument, Apply in order under one step limit, Write, each with its 7 to 10.": what the stages come to, and what is told of them.
+pub tell-checked : {w s o l : List ℕ} {p : Packet} {t : Term} {args : List Tree} → Checked w s o l p t args → Tells w s o p t args (tell w s o l) (run w s o l)
+unfolding run runPacket tell tellPacket
+tell-checked {l = l} {p = p} {t = t} {args = args} c =
     rw (fit-true (c .fit), c .is-packet, nothing-lacks c)
     (stages-staged (c .fit) p t args (c .is-rule) (c .are-texts) (packet-limit l (c .is-packet)))
+
+pub run-checked : {w s o l : List ℕ} {p : Packet} {t : Term} {args : List Tree} → Checked w s o l p t args → Staged w s o p t args (run w s o l) (tell w s o l .answer .stop)
+run-checked c = tell-checked c .staged
 
 -- a refusal of one of the four checks, or none of them
 pub data Checking (w s o l : List ℕ) : Type 0 where
@@ -165,3 +169,27 @@ checking w s o l = go (checks w s o l)
     go (no-rule f e q) = fails (refuses.no-rule f e q (run-bad-rule l f e q))
     go (no-text f e q u) = fails (refuses.no-text f e q u (run-bad-text l f e q u))
     go (passes c) = goes-on c
+
+-- What is told of a packet: where a check refuses it, its number alone; else what the stages come to.
+pub data Telling (w s o l : List ℕ) : Type 0 where
+  early : tell w s o l ≡ told (run w s o l) → Telling w s o l
+  staged : {p : Packet} {t : Term} {args : List Tree} → Checked w s o l p t args → Telling w s o l
+
+pub telling : (w s o l : List ℕ) → Telling w s o l
+unfolding run runPacket tell tellPacket
+telling w s o l = go (checks w s o l)
+  where
+    go : Checks w s o l → Telling w s o l
+    go (too-long h) = early (rw (not-fit h))
+    go (no-packet f e) = early (rw (fit-true f, e))
+    go (no-rule f {p} e q) = early (rw (fit-true f, e, rule-lacks p q))
+    go (no-text f {p} e q u) = early (rw (fit-true f, e, texts-lack p q u))
+    go (passes c) = staged c
+
+-- "A tool runs a packet alone" as Run does: what is told is Run's answer, and every lent word and byte is as Run leaves it.
+pub tell-runs : (w s o l : List ℕ) → answered (λ a. a .ran) (tell w s o l) ≡ run w s o l
+tell-runs w s o l = go (telling w s o l)
+  where
+    go : Telling w s o l → answered (λ a. a .ran) (tell w s o l) ≡ run w s o l
+    go (early e) = rw e
+    go (staged c) = tell-checked c .same

@@ -19,6 +19,7 @@ use Rattle.fields.specs.Packet.{Packet}
 use Rattle.running.specs.declared.Ran.{Ran}
 use Rattle.running.specs.Run.{run}
 use Rattle.running.specs.Claims.{Checked, TooFew, few-nodes, few-frames, few-bytes, Writes}
+use Rattle.running.specs.declared.Stop.{Stop}
 use Rattle.running.proofs.Outcomes.{Staged, stops, ends}
 use Rattle.running.proofs.Checks.{run-checked}
 use Rattle.running.proofs.Refused.{stops-by}
@@ -29,9 +30,9 @@ module _ {w s o l : List ℕ} {p : Packet} {t : Term} {args : List Tree} (c : Ch
   pub run-complete : {r : Tree} {k : Uses} → ApplyAll (ruleTree t) args r k → steps k ≤ p .limit → Writes w s o l r k
   run-complete {r} {k} d h = go (run-checked c)
     where
-      go : Staged w s o p t args (run w s o l) → Writes w s o l r k
-      go (stops {e = e} x b q) = inr (e, stops-by TooFew (λ z v ns a. absurd (omega (arith, a .no-tree refl d))) few-nodes few-frames few-bytes x, ap (λ (z : Outcome Ran). z .answer) q)
-      go (ends {z = z} x q) =
+      go : {at : Stop} → Staged w s o p t args (run w s o l) at → Writes w s o l r k
+      go (stops {e = e} x b q j) = inr (e, stops-by TooFew (λ z v ns a. absurd (omega (arith, a .no-tree refl d))) few-nodes few-frames few-bytes x, ap (λ (z : Outcome Ran). z .answer) q)
+      go (ends {z = z} x q j) =
           let i = applyAll-unique d (x .translated) in
           inl (z .used, rw (i .0, i .1) (ap (λ (z : Outcome Ran). z .answer) q))
 

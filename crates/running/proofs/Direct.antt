@@ -29,6 +29,7 @@ use Rattle.running.specs.Run.{run, ranNumbers, ranUses}
 use Rattle.running.specs.Claims.{endTable, Checked, Completes}
 use Rattle.running.specs.declared.Ran.{Ran}
 use Rattle.running.specs.declared.Ran.the-variants.{Text, Refused}
+use Rattle.running.specs.declared.Stop.{Stop}
 use Rattle.running.proofs.Undone.{reached-ends}
 use Rattle.running.proofs.Outcomes.{Staged, stops, ends}
 use Rattle.running.proofs.Checks.{run-checked, Checking, fails, goes-on, checking}
@@ -48,9 +49,9 @@ module _ (w s o l : List ℕ) (m u n : ℕ) (k : Uses) where
   unfolding Translated ranNumbers ranUses endTable
   run-direct q = go (checking w s o l)
     where
-      of-stages : {p : Packet} {t : Term} {args : List Tree} → Checked w s o l p t args → Staged w s o p t args (run w s o l) → Completes w s o l m u n k
-      of-stages c (stops h b e) = zero-one (cc)
-      of-stages {p} {t} {args} c (ends {r = r} {k = j} {z = z} h e) =
+      of-stages : {p : Packet} {t : Term} {args : List Tree} {at : Stop} → Checked w s o l p t args → Staged w s o p t args (run w s o l) at → Completes w s o l m u n k
+      of-stages c (stops h b e i) = zero-one (cc)
+      of-stages {p} {t} {args} c (ends {r = r} {k = j} {z = z} h e no-stop) =
           let a : j ≡ k = cc in
           let i : m ≡ steps k = rw (← a) (cc) in
           let b : z .used ≡ u = cc in

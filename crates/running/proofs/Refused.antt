@@ -24,6 +24,7 @@ use Rattle.running.specs.Run.{run, ranNumbers, ranUses}
 use Rattle.running.specs.Claims.{Fit, Checked, ReadStops, no-nodes, no-frames, later, ApplyStops, translate-nodes, translate-frames, Stops, in-translate, in-read, in-apply, in-write, Refuses, too-long, no-packet, no-rule, no-text, stops, Undid, BadRule, BadText}
 use Rattle.running.specs.declared.Ran.{Ran}
 use Rattle.running.specs.declared.Ran.the-variants.{Refused}
+use Rattle.running.specs.declared.Stop.{Stop}
 use Rattle.running.proofs.Outcomes.{Staged}
 use Rattle.running.proofs.Outcomes as outcomes
 use Rattle.running.proofs.Checks.{run-long, run-broken-packet, run-bad-rule, run-bad-text, run-checked, Checking, fails, goes-on, checking}
@@ -79,9 +80,9 @@ module _ (w s o l : List ℕ) where
       by : {c : Refusal} → Refuses w s o l (run w s o l) c → Refuses w s o l (run w s o l) e
       by {c} r = let a : c ≡ e = cc (refuses-with r) in rw (← a) r
 
-      of-stages : {p : Packet} {t : Term} {args : List Tree} → Checked w s o l p t args → Staged w s o p t args (run w s o l) → Refuses w s o l (run w s o l) e
-      of-stages c (outcomes.stops h k r) = by (stops c h k r)
-      of-stages c (outcomes.ends h r) = zero-one (cc)
+      of-stages : {p : Packet} {t : Term} {args : List Tree} {at : Stop} → Checked w s o l p t args → Staged w s o p t args (run w s o l) at → Refuses w s o l (run w s o l) e
+      of-stages c (outcomes.stops h k r i) = by (stops c h k r)
+      of-stages c (outcomes.ends h r i) = zero-one (cc)
 
       go : Checking w s o l → Refuses w s o l (run w s o l) e
       go (fails r) = by r

@@ -136,7 +136,7 @@ all-stop w u s f n limit e i h l q ns = go (ways w u s f n limit)
     by : (x : Turn) → settle u s x .answer ≡ Refused e → endOnwards (λ p j. endTable (frames s) (limit - steps j) (p .table) (p .node) ns) x ≡ tableOf x
     by (more z) r = refl
     by (done p j) r = zero-one (cc)
-    by (stop c t) r = refl
+    by (stop c z) r = refl
 
     go : Ways w u s f n limit → endTable (frames s) limit (record { words = w; used = u }) f (n ∷ ns) ≡ tableOf (uses (frames s) limit (begin w u f n))
     go (refused a r) = absurd (none-lacks i h l a)

@@ -24,14 +24,17 @@ use Rattle.ternary.specs.Text.{text, treeOf, mostPending}
 use Rattle.ternary.specs.Read.{readable}
 use Rattle.ternary.specs.Write.{lacks}
 use Rattle.ternary.specs.Held.{Spent}
-use Rattle.applying.specs.Machine.{Turn, more, done, stop, uses}
+use Rattle.applying.specs.Machine.{State, wanted, Turn, more, done, stop, uses}
 use Rattle.applying.specs.States.{tableOf}
 use Rattle.applying.specs.Apply.{begin}
+use Rattle.applying.specs.Ended.{Halted}
 use Rattle.applying.specs.Lacks.{Halts}
 use Rattle.fields.specs.Packet.{Packet, packet}
 use Rattle.running.specs.Run.{texts, run, ranNumbers, ranUses}
 use Rattle.running.specs.declared.Ran.{Ran}
 use Rattle.running.specs.declared.Ran.the-variants.{Text, Refused}
+use Rattle.running.specs.declared.Stop.{Stop}
+use Rattle.running.specs.declared.Stop.the-variants.{Nowhere, At}
 
 -- "1: lengths only.": what holds where it is not met
 pub record Fit (w s o : List ℕ) : Type 0 where
@@ -73,7 +76,7 @@ nodesBy p t k = size (ruleTree t) + total (p .arguments) + newNodes k
 unfoldable pub endOnwards : (Placed → Uses → Table) → Turn → Table
 endOnwards next (more z) = z .table
 endOnwards next (done p j) = next p j
-endOnwards next (stop e t) = t
+endOnwards next (stop e z) = z .table
 
 unfoldable pub endTable : ℕ → ℕ → Table → ℕ → List ℕ → Table
 endTable all limit z v [] = z
@@ -125,6 +128,7 @@ pub record ApplyStops (w s : List ℕ) (p : Packet) (t : Term) (args : List Tree
   pub left : List ℕ
   pub k : Uses
   pub reached : Reached (frames s) (p .limit) z v ns table function (argument ∷ left) k
+  pub place : length before + length (argument ∷ left) ≡ length ns
   pub fine : Sound table
   pub same-length : length (table .words) ≡ length w
   pub beyond : (i : ℕ) → table .used * 2 ≤ i → getD (table .words) i 0 ≡ getD w i 0
@@ -135,6 +139,9 @@ pub record ApplyStops (w s : List ℕ) (p : Packet) (t : Term) (args : List Tree
   pub within-limit : steps k ≤ p .limit
   pub used-most : table .used ≤ nodesBy p t k
   pub halts : Halts (frames s) (p .limit - steps k) (begin (table .words) (table .used) function argument) e
+  -- the state that then wants a use
+  pub state : State
+  pub halted : Halted (uses (frames s) (p .limit - steps k) (begin (table .words) (table .used) function argument)) e state
   -- the table in which it stops is the one in which all the applications end
   pub ends-in : tableOf (uses (frames s) (p .limit - steps k) (begin (table .words) (table .used) function argument)) ≡ endTable (frames s) (p .limit) z v ns
   pub no-tree : e ≡ Steps → {r : Tree} {j : Uses} → ApplyAll (ruleTree t) args r j → p .limit < steps j
@@ -149,6 +156,14 @@ pub data Stops (w s o : List ℕ) (p : Packet) (t : Term) (args : List Tree) : R
   in-write : {e : Refusal} {m : ℕ} {r : Placed} {z : Table} {ns : List ℕ} {x : Tree} {k : Uses} → TranslateHad w s t r → ReadsHad s (r .table) (p .arguments) z ns
       → ApplyAll (ruleTree t) args x k → steps k ≤ p .limit → Spent (frames s) 0 x (length o) (lacks e)
       → m ≡ endTable (frames s) (p .limit) z (r .node) ns .used → m ≤ nodesBy p t k → Stops w s o p t args e m
+
+-- Where a stage stops: "for a stop while applying [..] the argument's place (1 to 8), the steps taken in the whole run and which of the five rules was
+-- wanted. [..] For every other outcome it gives Run's number alone." ([14])
+unfoldable pub stopOf : {w s o : List ℕ} {p : Packet} {t : Term} {args : List Tree} {e : Refusal} {m : ℕ} → Stops w s o p t args e m → Stop
+stopOf (in-translate h) = Nowhere
+stopOf (in-read h r) = Nowhere
+stopOf (in-apply h r x i) = At (length (x .before) + 1) (steps (x .k) + steps (x .state .uses)) (wanted (x .state))
+stopOf (in-write h r x l y i j) = Nowhere
 
 -- What was not so where Run refuses with e, and the whole outcome x: "1: lengths only. 6: packet broken. 5: its rule. 4: its arguments' texts, first to
 -- last.", and then the label's ([1]). These "leave lent memory as found". Then a stage stops with 7 to 10: the words of the m nodes made since Run's entry

@@ -42,10 +42,14 @@ unfoldable pub stopped : Refusal → List ℕ → ℕ → List ℕ → List ℕ 
 stopped e w u s o = wholeOut (Refused e) (cleared w 0 (u * 2)) (zeros s) o
 
 -- What follows a stage: the refusal of an inner operation ends the call; else its node and its count of used nodes go on. u nodes were in use
--- before the stage, o are the out bytes.
-unfoldable pub afterMade : ℕ → List ℕ → Outcome Made → (List ℕ → ℕ → List ℕ → ℕ → Outcome Ran) → Made → Outcome Ran
-afterMade u o r next (made.Node v u′) = next (r .table) u′ (r .stack) v
-afterMade u o r next (made.Refused e) = stopped e (r .table) u (r .stack) o
+-- before the stage, o are the out bytes. `answer` says how a refusal is told.
+unfoldable pub afterMadeBy : {A : Type 0} → (Outcome Ran → A) → ℕ → List ℕ → Outcome Made → (List ℕ → ℕ → List ℕ → ℕ → A) → Made → A
+afterMadeBy answer u o r next (made.Node v u′) = next (r .table) u′ (r .stack) v
+afterMadeBy answer u o r next (made.Refused e) = answer (stopped e (r .table) u (r .stack) o)
+
+-- with its number alone
+abbrev pub afterMade : ℕ → List ℕ → Outcome Made → (List ℕ → ℕ → List ℕ → ℕ → Outcome Ran) → Made → Outcome Ran
+afterMade = afterMadeBy (λ x. x)
 
 unfoldable pub afterApplied : ℕ → List ℕ → Outcome Applied → (List ℕ → ℕ → List ℕ → ℕ → Uses → Outcome Ran) → Applied → Outcome Ran
 afterApplied u o r next (applied.Node v u′ j k) = next (r .table) u′ (r .stack) v k
@@ -67,11 +71,14 @@ applies (n ∷ ns) limit w u s o v k =
     afterApplied u o r (λ w′ u′ s′ v′ j. applies ns limit w′ u′ s′ o v′ (k ⊕ j)) (r .answer)
 
 -- Read each argument's text in order, and go on with the nodes.
-unfoldable pub reads : List (List ℕ) → List ℕ → ℕ → List ℕ → List ℕ → (List ℕ → List ℕ → ℕ → List ℕ → Outcome Ran) → Outcome Ran
-reads [] w u s o next = next [] w u s
-reads (l ∷ ls) w u s o next =
+unfoldable pub readsBy : {A : Type 0} → (Outcome Ran → A) → List (List ℕ) → List ℕ → ℕ → List ℕ → List ℕ → (List ℕ → List ℕ → ℕ → List ℕ → A) → A
+readsBy answer [] w u s o next = next [] w u s
+readsBy answer (l ∷ ls) w u s o next =
     let r = read w u s l in
-    afterMade u o r (λ w′ u′ s′ n. reads ls w′ u′ s′ o (λ ns. next (n ∷ ns))) (r .answer)
+    afterMadeBy answer u o r (λ w′ u′ s′ n. readsBy answer ls w′ u′ s′ o (λ ns. next (n ∷ ns))) (r .answer)
+
+abbrev pub reads : List (List ℕ) → List ℕ → ℕ → List ℕ → List ℕ → (List ℕ → List ℕ → ℕ → List ℕ → Outcome Ran) → Outcome Ran
+reads = readsBy (λ x. x)
 
 -- "Then Translate, Read of each argument, Apply in order under one step limit, Write, each with its 7 to 10."
 unfoldable pub stages : List ℕ → List ℕ → List ℕ → Packet → Outcome Ran

@@ -1,20 +1,25 @@
 // The stages of Run on a packet that passed the checks: Translate, Read of each argument, Apply in order, Write. Each stage is a function that ends
 // in the next one, as in the definition (the crate `running`), and takes its inner answer apart: a refusal clears what was made since Run's entry
-// (the crate `endings`).
+// (the crate `endings`). What is answered tells also where applying stopped.
 // The table is sound throughout and keeps its index, so each stage is the inner operation, and no node is checked again. specs/ and the crates
 // `endings` and `index` say what the stages ask.
-use applying::Applied;
+use applying::Ended;
+use applying::Rule;
 use calculus::Uses;
 use running::Ran;
+use running::Stop;
+use running::Told;
 use table::Made;
 use table::Refusal;
 ghost use mathlib.Core.Path.{_≡_};
-ghost use Prim.Native.Nat.{ℕ, _≤_, _<_};
-ghost use lib.ListN.{take};
+ghost use mathlib.Core.List.{List};
+ghost use Prim.Native.Nat.{ℕ, _+_, _*_, _≤_, _<_};
+ghost use lib.ListN.{length, take};
 ghost use Rattle.calculus.specs.Uses.{noUses};
 ghost use Rattle.table.specs.Outcome.{wholeOut};
 ghost use Rattle.packet.specs.Code.{Stand, valuesAt, packetAt};
-ghost use Rattle.running.specs.Run.{applies, reads, stages};
+ghost use Rattle.running.specs.Run.{stopped, readsBy};
+ghost use Rattle.running.specs.Tell.{tellAt, told, tellApplies, tellStages};
 ghost use Rattle.endings.specs.Ready.{Ready};
 ghost use Rattle.index.specs.Index as indexing;
 ghost use Rattle.stages.specs.Asked.{NodesIn, Passed};
@@ -26,19 +31,52 @@ struct Applications {
     limit: usize,
 }
 
-// The refusal of Apply, where there is one.
-fn applied_refusal(applied: Applied) -> Refusal
-    requires { ⌜ ((n u j : ℕ) (k : Uses) → applied ≡ Applied.Node n u j k → ⊥) ⌝ }
-    ensures { λ r. ⌜ applied ≡ Applied.Refused r ⌝ }
+// Run's answer where it did not stop while applying.
+fn tell(ran: Ran) -> Told
+    ensures { λ r. ⌜ r ≡ record { ran = ran; stop = Stop.Nowhere } ⌝ }
 {
-    match applied {
-        Applied::Refused(refusal) => refusal,
-        Applied::Node {
+    Told {
+        ran: ran,
+        stop: Stop::Nowhere,
+    }
+}
+
+// The application to the argument at a place stopped, after so many steps for the arguments before: what was made since Run's entry is cleared. An
+// application that gave a node did not stop, and is not brought here.
+fn stop_applying(
+    table: &mut [u32],
+    used: usize,
+    stack: &mut [u32],
+    ended: Ended,
+    place: usize,
+    before: usize,
+) -> Told
+    requires { ⌜ (used * 2 ≤ length (now table)) × (before ≤ 1000000) × ((e : Refusal) (j : ℕ) (d : Rule) → ended ≡ Ended.Stopped e j d → j ≤ 1000000) ⌝ }
+    ensures { λ r. ⌜ ((e : Refusal) (j : ℕ) (d : Rule) (o : List ℕ) → ended ≡ Ended.Stopped e j d
+        → wholeOut r (now (table .exit)) (now (stack .exit)) o ≡ tellAt (Stop.At place (before + j) d) (stopped e (now (table .entry)) used (now (stack .entry)) o)) ⌝ }
+{
+    match ended {
+        Ended::Stopped {
+            refusal,
+            steps,
+            rule,
+        } => {
+            let ran = endings::stop(table, used, stack, refusal);
+            Told {
+                ran: ran,
+                stop: Stop::At {
+                    place: place,
+                    steps: before + steps,
+                    rule: rule,
+                },
+            }
+        }
+        Ended::Node {
             node: _,
             used: _,
             steps: _,
             uses: _,
-        } => Refusal::Limits,
+        } => tell(Ran::Refused(Refusal::Limits)),
     }
 }
 
@@ -52,11 +90,11 @@ fn apply_all(
     work: Applications,
     index: &mut [u16],
     slots: usize,
-) -> Ran
+) -> Told
     requires { ⌜ Ready (now table) used (now stack) (now out) × (work .rule < used) × (work .limit ≤ 1000000) × (work .count ≤ 8) × NodesIn used nodes (work .count)
         × indexing.Ready (now table) used slots (now index) ⌝ }
     ensures { λ r. ⌜ wholeOut r (now (table .exit)) (now (stack .exit)) (now (out .exit))
-        ≡ applies (take (work .count) nodes) (work .limit) (now (table .entry)) used (now (stack .entry)) (now (out .entry)) (work .rule) noUses ⌝ }
+        ≡ tellApplies 1 (take (work .count) nodes) (work .limit) (now (table .entry)) used (now (stack .entry)) (now (out .entry)) (work .rule) noUses ⌝ }
 {
     let count = work.count;
     let limit = work.limit;
@@ -72,23 +110,24 @@ fn apply_all(
     let mut done = 0;
     while done < count {
         let argument = nodes[done];
-        let left = limit - counts::sum(uses);
+        let before = counts::sum(uses);
+        let left = limit - before;
         let answer = machine::apply_nodes(table, in_use, stack, node, argument, left, index, slots);
-        let Applied::Node {
+        let Ended::Node {
             node: given,
             used: used_then,
             steps: _,
             uses: taken,
         } = answer
         else {
-            return endings::stop(table, in_use, stack, applied_refusal(answer));
+            return stop_applying(table, in_use, stack, answer, done + 1, before);
         };
         node = given;
         in_use = used_then;
         uses = counts::plus(uses, taken);
         done += 1;
     }
-    endings::write_outcome(table, in_use, stack, out, node, uses)
+    tell(endings::write_outcome(table, in_use, stack, out, node, uses))
 }
 
 // Reads each argument's text in order, from a position of the packet on.
@@ -102,12 +141,12 @@ fn read_all(
     work: Applications,
     index: &mut [u16],
     slots: usize,
-) -> Ran
+) -> Told
     requires { ⌜ Ready (now table) used (now stack) (now out) × (work .rule < used) × (work .limit ≤ 1000000) × (work .count ≤ 8) × Stand (now packet) from (work .count)
         × indexing.Ready (now table) used slots (now index) ⌝ }
     ensures { λ r. ⌜ wholeOut r (now (table .exit)) (now (stack .exit)) (now (out .exit))
-        ≡ reads (valuesAt (now (packet .entry)) from (work .count)) (now (table .entry)) used (now (stack .entry)) (now (out .entry))
-        (λ ns w u s. applies ns (work .limit) w u s (now (out .entry)) (work .rule) noUses) ⌝ }
+        ≡ readsBy told (valuesAt (now (packet .entry)) from (work .count)) (now (table .entry)) used (now (stack .entry)) (now (out .entry))
+        (λ ns w u s. tellApplies 1 ns (work .limit) w u s (now (out .entry)) (work .rule) noUses) ⌝ }
 {
     let count = work.count;
     let mut nodes = [0usize; 8];
@@ -124,7 +163,7 @@ fn read_all(
             used: used_then,
         } = made
         else {
-            return endings::stop(table, in_use, stack, endings::made_refusal(made));
+            return tell(endings::stop(table, in_use, stack, endings::made_refusal(made)));
         };
         nodes[kept] = node;
         at = end;
@@ -144,10 +183,10 @@ pub fn run_stages(
     limit: usize,
     index: &mut [u16],
     slots: usize,
-) -> Ran
+) -> Told
     requires { ⌜ Passed (now table) (now stack) (now out) (now packet) count limit × indexing.Ready (now table) 0 slots (now index) ⌝ }
     ensures { λ r. ⌜ wholeOut r (now (table .exit)) (now (stack .exit)) (now (out .exit))
-        ≡ stages (now (table .entry)) (now (stack .entry)) (now (out .entry))
+        ≡ tellStages (now (table .entry)) (now (stack .entry)) (now (out .entry))
         (packetAt (now (packet .entry)) count limit 0) ⌝ }
 {
     let part = packet::part_at(packet, 0);
@@ -155,7 +194,7 @@ pub fn run_stages(
     let end = part.end;
     let made = term::translate_rule(table, 0, stack, &packet[start..end], index, slots);
     let Made::Node { node, used } = made else {
-        return endings::stop(table, 0, stack, endings::made_refusal(made));
+        return tell(endings::stop(table, 0, stack, endings::made_refusal(made)));
     };
     let work = Applications {
         rule: node,

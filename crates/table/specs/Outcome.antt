@@ -24,6 +24,10 @@ pub record Outcome (A : Type 0) : Type 0 where
 abbrev pub wholeOut : {A : Type 0} → A → List ℕ → List ℕ → List ℕ → Outcome A
 wholeOut a w s o = record { answer = a; table = w; stack = s; out = o }
 
+-- the same outcome with another answer
+abbrev pub answered : {A B : Type 0} → (A → B) → Outcome A → Outcome B
+answered f x = wholeOut (f (x .answer)) (x .table) (x .stack) (x .out)
+
 -- of an operation that is lent no out bytes
 abbrev pub whole : {A : Type 0} → A → List ℕ → List ℕ → Outcome A
 whole a w s = wholeOut a w s []

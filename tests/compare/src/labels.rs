@@ -2,10 +2,10 @@
 //! at the borders of the room that each stage needs.
 
 use crate::runs::{kept, line, second_room, with_few_frames};
-use crate::{add, difference, hexadecimal, Counts, Noise};
+use crate::{difference, hexadecimal, Counts, Noise};
 use compare::packets::{self, Case};
 use compare::random::Random;
-use compare::{answer_of, labelled_line, PAPERS};
+use compare::{add, answer_of, labelled_line, PAPERS};
 use model::{Answer, Stage};
 
 /// What each stage can lack. Write cannot lack a frame: the fork of the whole is held while the label is

@@ -1,14 +1,15 @@
 //! What the comparison, the program's test and the benchmark share: packets, rules, texts and rule
-//! texts from a seeded generator, an answer as a list of numbers or as a program's line, and which
-//! requests of document 02 hold.
+//! texts from a seeded generator, an answer as a list of numbers or as a program's line, stops tried again
+//! with one more of what they name, and which requests of document 02 hold.
 
 pub mod packets;
 pub mod random;
+pub mod stops;
 pub mod texts;
 pub mod trees;
 
 /// What the second evaluator goes by: document 01 and, of document 02, [2], [1], [4] and [8]. It tells
-/// the uses of each rule ([5]) whatever holds.
+/// the uses of each rule ([5]) and where a run stopped ([14]) whatever holds.
 pub const PAPERS: second::Papers = second::Papers {
     default_limit: 100_000,
     labels: true,
@@ -24,6 +25,23 @@ pub fn labelled_line(labelled: &Result<(usize, String), second::Refusal>) -> Str
     match labelled {
         Ok((used, text)) => format!("0 0 {used} {text}"),
         Err(number) => format!("{number} 0 0 -"),
+    }
+}
+
+/// What the second evaluator says of where a packet's run stopped, as the models list it.
+pub fn second_stopped(stopped: &second::Stopped) -> model::Stopped {
+    let (place, steps, rule) = stopped.applying.unwrap_or_default();
+    [usize::from(stopped.number), place, steps as usize, rule]
+}
+
+/// The names of the five rules, in document 01's order.
+pub const RULES: [&str; 5] = ["leaf", "stem", "drop", "spread", "triage"];
+
+/// Where a run stopped, as the program `stopped` prints it.
+pub fn stopped_line([number, place, steps, rule]: model::Stopped) -> String {
+    match rule {
+        0 => number.to_string(),
+        rule => format!("{number} {place} {steps} {}", RULES[rule - 1]),
     }
 }
 
@@ -55,6 +73,11 @@ pub fn same_of(same: lazvorn::Same) -> model::Same {
     [same.refusal, same.equal]
 }
 
+/// The same of an answer about where a run stopped.
+pub fn stopped_of(stopped: lazvorn::Stopped) -> model::Stopped {
+    [stopped.refusal, stopped.place, stopped.steps, stopped.rule]
+}
+
 /// The same of an answer of Apply or Run, with the uses of each rule.
 pub fn counted_of(answer: lazvorn::Counted) -> model::Counted {
     let [refusal, node, used, steps, digits] = answer_of(answer.numbers());
@@ -71,4 +94,11 @@ pub fn counted_of(answer: lazvorn::Counted) -> model::Counted {
         uses.spread,
         uses.triage,
     ]
+}
+
+/// Adds the numbers of one list to those of another.
+pub fn add<const N: usize>(to: &mut [usize; N], numbers: &[usize; N]) {
+    for (to, number) in to.iter_mut().zip(numbers) {
+        *to += number;
+    }
 }

@@ -1,12 +1,14 @@
 //! Compares the engine with the second evaluator on packets, run and labelled, and with the model on
 //! packets, on calls of each operation, on texts and their beginnings and on rule texts: answers and
-//! every lent word and byte. Labelled rules are held to the rules alone too, and rule texts printed from
-//! random expressions to the expressions. Prints each difference, of rule texts the first few, how often
-//! each refusal was met, how many packets used each rule, what became of labels, how often each stage of
-//! a labelling lacked room, how many calls had two equal nodes or no free node, what kinds of trees were
-//! taken apart or compared, and how many labelled rules ran beside a label, or were rules, that never
-//! ended. The exit status is 1 where anything differs, and where one of these that can be met was met too
-//! seldom for the run to mean something.
+//! every lent word and byte. Each stop while applying is tried again with one more of what it names.
+//! Labelled rules are held to the rules alone too, and rule texts printed from random expressions to the
+//! expressions. Prints each difference, of rule texts the first few, how often each refusal was met, how
+//! many packets used each rule, what became of labels, how many runs stopped while applying and where,
+//! how many of them were tried again and what became of them, how often each stage of a labelling lacked
+//! room, how many calls had two equal nodes or no free node, what kinds of trees were taken apart or
+//! compared, and how many labelled rules ran beside a label, or were rules, that never ended. The exit
+//! status is 1 where anything differs, and where one of these that can be met was met too seldom for the
+//! run to mean something.
 //!
 //! `compare [PACKETS [SEED]]`
 
@@ -21,6 +23,8 @@ mod unlabel;
 
 use compare::packets::{self, WRONG_LABELS};
 use compare::random::Random;
+use compare::stops::{self, AGAIN, NUMBERS};
+use compare::RULES;
 use model::Memory;
 
 /// How many runs of packets and how many calls of each operation a run compares if nothing else is
@@ -36,12 +40,12 @@ const BEGINNINGS: usize = 20_000;
 const LABELLED_RULES: usize = 4_000;
 
 /// How often a packet that is run must meet each refusal from 4 to 10, in how many that succeed each
-/// rule must be used, how often each kind of label must be met, how often a labelling must meet each
-/// refusal and lack each thing that it can, how many calls of each kind must be made, and how often a
-/// labelled rule must end, lack a step, have a label that never ends, and never end itself.
+/// rule must be used, how often each kind of label must be met, how often a run must stop while applying
+/// with each refusal, at each argument and wanting each rule, and be tried again with each outcome, how
+/// often a labelling must meet each refusal and lack each thing that it can, how many calls of each kind
+/// must be made, and how often a labelled rule must end, lack a step, have a label that never ends, and
+/// never end itself.
 const SELDOM: usize = 100;
-
-const RULES: [&str; 5] = ["leaf", "stem", "drop", "spread", "triage"];
 
 /// How often rule texts with a known outcome, and rule texts with one byte changed, must succeed and
 /// meet each of their refusals.
@@ -172,6 +176,9 @@ impl Packets {
     /// Compares packets until so many runs are compared.
     fn compared(random: &mut Random, noise: &Noise, packets: usize) -> Self {
         let mut compared = Packets::default();
+        for case in packets::at_tops() {
+            compared.runs.compare(random, noise, &case);
+        }
         while compared.runs.packets() < packets {
             let case = packets::case(random);
             compared.runs.compare(random, noise, &case);
@@ -200,6 +207,7 @@ impl Packets {
         let mut met = vec![("passed over".to_string(), runs.passed_over)];
         met.extend(wrong.map(|(label, n)| (format!("{} {label:?}", label.refusal()), n)));
         differences += print_met("labels", &met);
+        differences += print_stops(&runs.stops);
         print("Labelled", &labels.counts, [1].into_iter().chain(LABELLING));
         differences += seldom(&labels.counts, [0].into_iter().chain(LABELLING));
         let lacked = labels::LACKS.iter().zip(labels.lacked);
@@ -208,11 +216,32 @@ impl Packets {
     }
 }
 
-/// Adds the numbers of one list to those of another.
-pub fn add<const N: usize>(to: &mut [usize; N], numbers: &[usize; N]) {
-    for (to, number) in to.iter_mut().zip(numbers) {
-        *to += number;
+/// Prints what came of stops while applying; how many of the kinds that are counted were met too seldom.
+fn print_stops(stops: &stops::Compared) -> usize {
+    let by_number = |counts: [usize; 3]| {
+        let counts = NUMBERS.into_iter().zip(counts);
+        counts.map(|(number, n)| (number.to_string(), n)).collect()
+    };
+    let places = (1..).zip(stops.places);
+    let places = places.map(|(place, n)| (place.to_string(), n)).collect();
+    let rules = RULES.into_iter().zip(stops.rules);
+    let rules = rules.map(|(rule, n)| (rule.to_string(), n)).collect();
+    let again = AGAIN.iter().zip(stops.again);
+    let again = again.map(|(again, n)| (format!("{again:?}"), n)).collect();
+    let seldom = print_met("stopped with", &by_number(stops.numbers))
+        + print_met("stopped at argument", &places)
+        + print_met("stopped wanting", &rules)
+        + print_met("tried again with one more after", &by_number(stops.raised))
+        + print_met("and then", &again);
+    let tops: [usize; 3] = std::array::from_fn(|i| stops.numbers[i] - stops.raised[i]);
+    let shown = NUMBERS.iter().zip(tops);
+    let shown: Vec<String> = shown.map(|(number, n)| format!("{number}: {n}")).collect();
+    println!("{:<10} at a top and not raised {}", "", shown.join(", "));
+    let never = tops.iter().filter(|n| **n == 0).count();
+    if never > 0 {
+        println!("{never} tops were never met");
     }
+    seldom + never
 }
 
 /// Compares calls of each operation; how many differ, how many refusals were never met, and how many kinds

@@ -1,6 +1,6 @@
-//! Packets and the memory that they are run in: valid, damaged, too long, endless and sharing ones,
-//! with labels and without, in the program's room, in little room and at the borders of the room that
-//! a packet needs.
+//! Packets and the memory that they are run in: valid, damaged, too long, endless, sharing and nested ones,
+//! with labels and without, in the program's room, in little room, at the borders of the room that a packet
+//! needs and of the room that it stops in.
 
 use crate::random::Random;
 use crate::trees;
@@ -225,6 +225,41 @@ fn sharing(random: &mut Random) -> Parts {
     }
 }
 
+/// Applications within applications, more of them than Translate needs frames, in a room for about as many.
+/// λx. x gives back the first arguments, its own tree, and then a tree in which each 21p over another is a
+/// spread that holds a frame while the other is applied.
+pub fn nested(random: &mut Random) -> Case {
+    let most = *random.pick(&[12, 30, 30, 300]);
+    let levels = random.within(1, most);
+    let level = *random.pick(&["210", "2110", "21200", "2122000"]);
+    let mut text = level.repeat(levels).into_bytes();
+    match random.below(3) {
+        0 => text.extend(b"22000"),
+        _ => {
+            let budget = random.within(1, 9);
+            text.extend(trees::tree(random, budget));
+        }
+    }
+    let mut arguments = vec![b"21010".to_vec(); random.below(6)];
+    arguments.push(text);
+    for _ in 0..random.within(1, 2) {
+        let budget = random.within(1, 9);
+        arguments.push(trees::tree(random, budget));
+    }
+    let limit = random.once_in(4).then(|| random.below(4 * levels) as u32);
+    let parts = Parts {
+        rule: trees::RULES[0].to_vec(),
+        arguments,
+        limit,
+        label: label(random),
+    };
+    let room = Room {
+        stack: 3 * random.within(10, levels + 11) + random.below(3),
+        ..PROGRAM
+    };
+    Case::of(parts, room)
+}
+
 /// Well-formed fields with values at the border of what a packet, a rule or a text may be.
 fn large(random: &mut Random) -> Parts {
     let mut parts = valid(random);
@@ -379,7 +414,8 @@ fn room(random: &mut Random) -> Room {
 /// The next case.
 pub fn case(random: &mut Random) -> Case {
     let parts = match random.below(100) {
-        0..=44 => valid(random),
+        0..=40 => valid(random),
+        41..=44 => return nested(random),
         45..=50 => endless(random),
         51..=60 => sharing(random),
         61..=63 => large(random),
@@ -413,8 +449,55 @@ pub fn case(random: &mut Random) -> Case {
     Case::of(parts, room(random))
 }
 
+/// Packets that stop in pairs: one below the top of what they lack, and at the top.
+///
+/// - λx. x x on itself never ends and makes two nodes. Its packet has 24 bytes and a label, which fills it
+///   so that a limit's field just fits in, or just not; or it names a limit.
+/// - λx. x(x(x x)) on t, which gives y twice for y, doubles eight times. y is the leaf 256 times, and on a
+///   leaf it makes 65,536 stems.
+/// - λx. Δ(x x) on itself holds one frame more in each of its rounds, which take eleven steps.
+pub fn at_tops() -> Vec<Case> {
+    let endless = |digits: usize| {
+        let label = [vec![b'1'; digits - 1], vec![b'0']].concat();
+        let parts = on_itself(trees::ENDLESS[0], None, Some(label));
+        Case::of(parts, PROGRAM)
+    };
+    let deep = on_itself(trees::ENDLESS[1], Some(1_000_000), None);
+    let twice = |y: String| format!("21{y}20{y}");
+    let leaves = (0..8).fold("0".to_string(), |y, _| twice(y));
+    let stems = Parts {
+        rule: vec![2, 1, 3, 0, 1, 3, 0, 1, 3, 0, 3, 0],
+        arguments: ["2110210200", &leaves, "0"].map(Vec::from).to_vec(),
+        limit: Some(1_000_000),
+        label: None,
+    };
+    let in_table = |table| Case::of(stems.clone(), Room { table, ..MOST });
+    let in_stack = |stack| Case::of(deep.clone(), Room { stack, ..MOST });
+    let limited = |limit| Case::of(on_itself(trees::ENDLESS[0], Some(limit), None), PROGRAM);
+    vec![
+        endless(16_377 - 24 - 3),
+        endless(16_378 - 24 - 3),
+        limited(999_999),
+        limited(1_000_000),
+        in_table(131_071),
+        in_table(131_072),
+        in_stack(65_534),
+        in_stack(65_535),
+    ]
+}
+
+/// A rule on its own tree.
+fn on_itself(rule: &[u8], limit: Option<u32>, label: Option<Vec<u8>>) -> Parts {
+    Parts {
+        rule: rule.to_vec(),
+        arguments: vec![trees::text_of(rule)],
+        limit,
+        label,
+    }
+}
+
 /// A case that succeeded with these numbers, run again with just enough of one thing, one too few of
-/// it or one more.
+/// it or one more, or with any part of the nodes or steps.
 pub fn at_border(
     random: &mut Random,
     case: &Case,
@@ -423,15 +506,30 @@ pub fn at_border(
     digits: usize,
 ) -> Case {
     let mut case = case.clone();
-    match random.below(3) {
-        0 => case.room.table = nodes_near(random, used),
-        1 => case.room.out = random.near(digits),
-        _ => {
-            if let Some(parts) = &mut case.parts {
-                parts.limit = Some(random.near(steps) as u32);
-                case.packet = parts.packet();
-            }
+    match random.below(8) {
+        0 | 1 => case.room.table = nodes_near(random, used),
+        2 => {
+            let nodes = random.within(1, used);
+            case.room.table = nodes_near(random, nodes);
         }
+        3 | 4 => case.room.out = random.near(digits),
+        number => {
+            let steps = match number {
+                5 => random.within(0, steps),
+                _ => steps,
+            };
+            return with_steps(random, &case, steps);
+        }
+    }
+    case
+}
+
+/// A case under a step limit of so many steps, one less or one more, where the packet's parts are known.
+pub fn with_steps(random: &mut Random, case: &Case, steps: usize) -> Case {
+    let mut case = case.clone();
+    if let Some(parts) = &mut case.parts {
+        parts.limit = Some(random.near(steps) as u32);
+        case.packet = parts.packet();
     }
     case
 }

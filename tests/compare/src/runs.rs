@@ -1,10 +1,12 @@
-//! Run beside the second evaluator and the model, and beside itself on the packet without its label.
+//! Run and `stopped` beside the second evaluator and the model, and Run beside itself on the packet without
+//! its label.
 
-use crate::{add, difference, hexadecimal, Counts, Noise};
+use crate::{difference, hexadecimal, Counts, Noise};
 use compare::packets::{self, Case, Label, Parts, Room, WRONG_LABELS};
 use compare::random::Random;
-use compare::{counted_of, PAPERS};
-use model::{Counted, Memory};
+use compare::stops::{self, Ran};
+use compare::{add, counted_of, second_stopped, stopped_of, PAPERS};
+use model::{Counted, Memory, Stopped};
 
 /// The line that the program would print for a run, and the uses of each rule.
 type Told = (String, [usize; 5]);
@@ -35,13 +37,26 @@ pub fn second_room(room: Room) -> Option<second::Room> {
     })
 }
 
-fn second_told(case: &Case) -> Told {
+/// What the second evaluator tells of a run, and where it stopped. Of a refusal its number is all that it
+/// tells, so that only a run that completes is run for its outcome too.
+fn second_told(case: &Case) -> (Told, Stopped) {
     let Some(room) = second_room(case.room) else {
-        return ("1 0 0 -".to_string(), [0; 5]);
+        return (("1 0 0 -".to_string(), [0; 5]), [1, 0, 0, 0]);
     };
-    let ran = second::run(&case.packet, room, PAPERS);
+    let stopped = second::stopped(&case.packet, room, PAPERS);
+    let ran = match stopped.number {
+        0 => second::run(&case.packet, room, PAPERS),
+        number => Err(number),
+    };
     let uses = ran.as_ref().map_or([0; 5], |outcome| outcome.uses);
-    (second::line(&ran), uses.map(|count| count as usize))
+    let told = (second::line(&ran), uses.map(|count| count as usize));
+    (told, second_stopped(&stopped))
+}
+
+/// Whether a packet's run succeeds by the second evaluator.
+fn second_succeeds(case: &Case) -> bool {
+    let room = second_room(case.room);
+    room.is_some_and(|room| second::run(&case.packet, room, PAPERS).is_ok())
 }
 
 /// Whether memory is as the paper says that every refusal and every success leaves it, where the table
@@ -76,6 +91,16 @@ pub fn run(memory: &mut Memory, packet: &[u8]) -> Counted {
     ))
 }
 
+/// The engine's `stopped`.
+fn stopped(memory: &mut Memory, packet: &[u8]) -> Stopped {
+    stopped_of(lazvorn::stopped(
+        &mut memory.table,
+        &mut memory.stack,
+        &mut memory.out,
+        packet,
+    ))
+}
+
 /// The packet without its label, where "that text is whole and the packet keeps within 16,384 bytes".
 fn without_label(case: &Case) -> Option<Vec<u8>> {
     let parts = case.parts.as_ref()?;
@@ -89,15 +114,32 @@ fn without_label(case: &Case) -> Option<Vec<u8>> {
     })
 }
 
+/// What is wrong with an answer and with what it left, by the engine alone: memory, or another outcome of
+/// the packet without its label.
+fn alone(case: &Case, answer: &Counted, before: &Memory, after: &Memory) -> Vec<String> {
+    let mut wrong = Vec::new();
+    if !kept(before, after, answer) {
+        wrong.push("memory is not as the answer's number says".to_string());
+    }
+    if let Some(packet) = without_label(case) {
+        let mut memory = before.clone();
+        if run(&mut memory, &packet) != *answer || memory != *after {
+            wrong.push("the packet without its label has another outcome".to_string());
+        }
+    }
+    wrong
+}
+
 /// What came of packets: how often each refusal was met, and 0 for success; in how many of those that
 /// succeeded each rule was used; in how many the label was passed over, and in how many each kind of
-/// wrong label met its refusal; and how many differ.
+/// wrong label met its refusal; what came of stops; and how many differ.
 #[derive(Default)]
 pub struct Compared {
     pub counts: Counts,
     pub using: [usize; 5],
     pub passed_over: usize,
     pub wrong_labels: [usize; WRONG_LABELS.len()],
+    pub stops: stops::Compared,
     pub differences: usize,
 }
 
@@ -110,6 +152,7 @@ impl Compared {
         add(&mut self.counts, &other.counts);
         add(&mut self.using, &other.using);
         add(&mut self.wrong_labels, &other.wrong_labels);
+        self.stops.add(&other.stops);
         self.passed_over += other.passed_over;
         self.differences += other.differences;
     }
@@ -127,18 +170,19 @@ impl Compared {
         }
     }
 
-    /// Runs a case and adds what came of it. Gives the engine's answer.
-    fn check(&mut self, random: &mut Random, noise: &Noise, case: &Case) -> Counted {
+    /// Runs a case and adds what came of it. Gives the engine's answer, and where it stopped by the model.
+    fn check(&mut self, random: &mut Random, noise: &Noise, case: &Case) -> (Counted, Stopped) {
         let room = case.room;
         let before = noise.memory(random, room.table, room.stack, room.out);
         let mut engine = before.clone();
         let answer = run(&mut engine, &case.packet);
         let mut expected = before.clone();
-        let modelled = model::run(&mut expected, &case.packet);
+        let (modelled, model) = model::run_to(&mut expected, &case.packet);
         self.count(case, &modelled);
 
         let mut wrong = Vec::new();
-        let (ours, theirs) = (told(&answer, &engine.out), second_told(case));
+        let ours = told(&answer, &engine.out);
+        let (theirs, second) = second_told(case);
         if ours != theirs {
             wrong.push(format!("engine: {ours:?}\nsecond: {theirs:?}"));
         }
@@ -146,28 +190,36 @@ impl Compared {
             wrong.push(format!("engine: {answer:?}\nmodel:  {modelled:?}"));
         }
         wrong.extend(difference(&engine, &expected));
-        if !kept(&before, &engine, &answer) {
-            wrong.push("memory is not as the answer's number says".to_string());
-        }
-        if let Some(packet) = without_label(case) {
-            let mut memory = before.clone();
-            if run(&mut memory, &packet) != answer || memory != engine {
-                wrong.push("the packet without its label has another outcome".to_string());
-            }
-        }
+        wrong.extend(alone(case, &answer, &before, &engine));
+        let ran = Ran {
+            packet: &case.packet,
+            before: &before,
+            left: &engine,
+            second,
+            model,
+        };
+        wrong.extend(self.stops.compare(stopped, random, &ran));
         if !wrong.is_empty() {
             println!("packet {}\nin {room:?}", hexadecimal(&case.packet));
             println!("{}", wrong.join("\n"));
             self.differences += 1;
         }
-        answer
+        (answer, model)
     }
 
-    /// Compares on a case, and where it succeeds now and then at the borders of the room it needs.
+    /// Compares on a case, and now and then where it succeeds at the borders of the room it needs, and where
+    /// a node or a frame is lacking with too few steps for that use.
     pub fn compare(&mut self, random: &mut Random, noise: &Noise, case: &Case) {
-        let answer = self.check(random, noise, case);
+        let (answer, [number, place, steps, _]) = self.check(random, noise, case);
+        if case.parts.is_none() {
+            return;
+        }
+        if matches!(number, 8 | 9) && place != 0 && random.once_in(2) {
+            let case = packets::with_steps(random, case, steps);
+            self.check(random, noise, &case);
+        }
         let [refusal, _, used, steps, digits, ..] = answer;
-        if refusal != 0 || case.parts.is_none() {
+        if refusal != 0 {
             return;
         }
         for _ in 0..random.below(4) {
@@ -175,8 +227,7 @@ impl Compared {
             self.check(random, noise, &case);
         }
         if random.once_in(8) {
-            let enough = |case: &Case| second_told(case).0.starts_with("0 ");
-            let case = with_few_frames(random, case, enough);
+            let case = with_few_frames(random, case, second_succeeds);
             self.check(random, noise, &case);
         }
     }

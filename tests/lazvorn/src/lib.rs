@@ -61,6 +61,61 @@ impl Counted {
     }
 }
 
+/// One of the five rules, by its number in an answer of `stopped`.
+#[derive(Clone, Copy, Debug, PartialEq, Eq)]
+pub enum Rule {
+    Leaf = 1,
+    Stem = 2,
+    Drop = 3,
+    Spread = 4,
+    Triage = 5,
+}
+
+impl Rule {
+    /// The rule of a number from 1 to 5.
+    pub fn of(number: usize) -> Option<Self> {
+        let rules = [
+            Rule::Leaf,
+            Rule::Stem,
+            Rule::Drop,
+            Rule::Spread,
+            Rule::Triage,
+        ];
+        rules.into_iter().find(|rule| *rule as usize == number)
+    }
+
+    pub fn name(self) -> &'static str {
+        match self {
+            Rule::Leaf => "leaf",
+            Rule::Stem => "stem",
+            Rule::Drop => "drop",
+            Rule::Spread => "spread",
+            Rule::Triage => "triage",
+        }
+    }
+}
+
+/// The four numbers of an answer of `stopped`. Those after the refusal are 0 for every outcome that is no
+/// stop while applying.
+#[derive(Clone, Copy, Debug, Default, PartialEq, Eq)]
+pub struct Stopped {
+    /// Run's refusal, 0 for success.
+    pub refusal: usize,
+    /// The place of the argument that was applied to, from 1 to 8.
+    pub place: usize,
+    /// The steps taken in the whole run.
+    pub steps: usize,
+    /// The number of the rule that was wanted next.
+    pub rule: usize,
+}
+
+impl Stopped {
+    /// The rule that was wanted, if this is a stop while applying.
+    pub fn wanted(&self) -> Option<Rule> {
+        Rule::of(self.rule)
+    }
+}
+
 /// The six numbers of an answer of `unlabel`: the nodes of a labelled tree's rule and label. A refusal
 /// has `used` as at entry and 0 for the others.
 #[derive(Clone, Copy, Debug, Default, PartialEq, Eq)]
@@ -201,6 +256,17 @@ mod raw {
             packet: *const u8,
             packet_len: usize,
             answer: *mut [usize; 10],
+        );
+        pub fn lazvorn_stopped(
+            table: *mut u32,
+            table_len: usize,
+            stack: *mut u32,
+            stack_len: usize,
+            out: *mut u8,
+            out_len: usize,
+            packet: *const u8,
+            packet_len: usize,
+            answer: *mut [usize; 4],
         );
         pub fn lazvorn_label_packet(
             table: *mut u32,
@@ -413,6 +479,19 @@ unsafe fn on_packet<const N: usize>(
 /// of a packet that names none is 100,000. A label is passed over, if its text is whole.
 pub fn run(table: &mut [u32], stack: &mut [u32], out: &mut [u8], packet: &[u8]) -> Counted {
     counted(|answer| unsafe { on_packet(raw::lazvorn_run, table, stack, out, packet, answer) })
+}
+
+/// Runs a packet as `run` does, leaves the same in all that is lent, and tells where applying stopped.
+pub fn stopped(table: &mut [u32], stack: &mut [u32], out: &mut [u8], packet: &[u8]) -> Stopped {
+    let mut answer = [usize::MAX; 4];
+    unsafe { on_packet(raw::lazvorn_stopped, table, stack, out, packet, &mut answer) };
+    let [refusal, place, steps, rule] = answer;
+    Stopped {
+        refusal,
+        place,
+        steps,
+        rule,
+    }
 }
 
 /// Labels a packet's rule with its label, with the table taken as empty, and writes the labelled tree's

@@ -3,8 +3,8 @@
 //! one too few of each, so that an argument in another's place, or a length that is lost, shows.
 
 use lazvorn::{
-    Counted, Numbers, Parts, Same, TextNumbers, Uses, BROKEN, FRAMES, LIMITS, NODE, NODES,
-    NOT_LABELLED, OUT, PACKET, RULE, RULE_TEXT, STEPS, TEXT,
+    Counted, Numbers, Parts, Rule, Same, Stopped, TextNumbers, Uses, BROKEN, FRAMES, LIMITS, NODE,
+    NODES, NOT_LABELLED, OUT, PACKET, RULE, RULE_TEXT, STEPS, TEXT,
 };
 
 /// Fills memory that is to be left as found, or overwritten.
@@ -52,15 +52,13 @@ impl Lent {
     }
 
     fn nothing_beyond(&self) {
-        assert!(self.table[self.table.len() - BEYOND..]
-            .iter()
-            .all(|w| *w == NOISE));
-        assert!(self.stack[self.stack.len() - BEYOND..]
-            .iter()
-            .all(|w| *w == NOISE));
-        assert!(self.out[self.out.len() - BEYOND..]
-            .iter()
-            .all(|b| *b == BYTE));
+        fn beyond<T>(part: &[T]) -> &[T] {
+            &part[part.len() - BEYOND..]
+        }
+        let found = self.as_found();
+        assert_eq!(beyond(&self.table), beyond(&found.table));
+        assert_eq!(beyond(&self.stack), beyond(&found.stack));
+        assert_eq!(beyond(&self.out), beyond(&found.out));
     }
 
     fn stack_is_zero(&self) {
@@ -434,6 +432,241 @@ fn run_passes_over_a_label() {
     refused(&[open_rule, b"\x04\x00\x00"], RULE);
 }
 
+/// A stop while applying.
+fn stop(refusal: usize, place: usize, steps: usize, rule: Rule) -> Stopped {
+    let rule = rule as usize;
+    Stopped {
+        refusal,
+        place,
+        steps,
+        rule,
+    }
+}
+
+/// Run's number alone.
+fn alone(refusal: usize) -> Stopped {
+    Stopped {
+        refusal,
+        ..Stopped::default()
+    }
+}
+
+/// Calls `stopped`, and Run from the same start: the refusal and all that is lent must be the same.
+fn stopped_in([words, stack, out]: [usize; 3], packet: &[u8]) -> (Stopped, Lent) {
+    let mut lent = Lent::new(words, stack, out);
+    let (t, s, o) = lent.parts();
+    let stopped = lazvorn::stopped(t, s, o, packet);
+    lent.nothing_beyond();
+    let (ran, left) = run_in([words, stack, out], packet);
+    assert_eq!(stopped.refusal, ran.refusal);
+    assert_eq!(lent, left);
+    (stopped, lent)
+}
+
+/// Holds a call to an answer from 7 to 10, and what it leaves to so many nodes made and cleared.
+fn stops(room: [usize; 3], packet: &[u8], answer: Stopped, nodes: usize) {
+    let (stopped, lent) = stopped_in(room, packet);
+    assert_eq!(stopped, answer, "{room:?}");
+    lent.is_undone(0..nodes);
+}
+
+/// A packet with this step limit named.
+fn limited(packet: &[u8], limit: u8) -> Vec<u8> {
+    [packet, &[3, 0, 4, 0, 0, 0, limit]].concat()
+}
+
+/// λx. x on these texts.
+fn same_on(texts: &[&str]) -> Vec<u8> {
+    let mut packet = vec![1, 0, 3, 2, 3, 0];
+    for text in texts {
+        packet.extend([2, 0, text.len() as u8]);
+        packet.extend(text.as_bytes());
+    }
+    packet
+}
+
+#[test]
+fn stopped_where_the_run_completes() {
+    let (stopped, lent) = stopped_in([13, 73, 3], &PAPER[..13]);
+    assert_eq!(stopped, alone(0));
+    assert_eq!(stopped.wanted(), None);
+    assert_eq!(lent.out[..3], [b'1', b'0', BYTE]);
+    assert_eq!(
+        lent.table[..13],
+        [0, 0, 1, 0, 2, 2, 3, 0, 4, 3, 1, 1, NOISE]
+    );
+    lent.stack_is_zero();
+    let most = [131_072, 65_536, 65_535];
+    assert_eq!(stopped_in(most, &PAPER[..13]).0, alone(0));
+}
+
+/// The uses of the paper's packet in their order: Δ(ΔI)I on the leaf is spread; I on the leaf is spread, ΔΔ
+/// on the leaf a stem, the leaf on the leaf a leaf, and 200 on 10 a drop; I on the leaf again; and the leaf
+/// on the leaf. Five nodes are the rule's, and the first stem makes 200.
+const PAPER_USES: [Rule; 10] = [
+    Rule::Spread,
+    Rule::Spread,
+    Rule::Stem,
+    Rule::Leaf,
+    Rule::Drop,
+    Rule::Spread,
+    Rule::Stem,
+    Rule::Leaf,
+    Rule::Drop,
+    Rule::Leaf,
+];
+
+#[test]
+fn stopped_at_each_use() {
+    let packet = &PAPER[..13];
+    for (steps, rule) in PAPER_USES.into_iter().enumerate() {
+        let nodes = if steps < 3 { 5 } else { 6 };
+        let answer = stop(STEPS, 1, steps, rule);
+        assert_eq!(answer.wanted(), Some(rule));
+        let packet = limited(packet, steps as u8);
+        stops([13, 73, 3], &packet, answer, nodes);
+        // A label after the limit is passed over.
+        let labelled = [&packet[..], b"\x04\x00\x0210"].concat();
+        stops([13, 73, 3], &labelled, answer, nodes);
+    }
+    assert_eq!(stopped_in([13, 73, 3], &limited(packet, 10)).0, alone(0));
+    // Without a sixth node 200 has no place. Where the limit is reached there too, 7 comes first.
+    let full = [11, 73, 3];
+    stops(full, packet, stop(NODES, 1, 2, Rule::Stem), 5);
+    stops(full, &limited(packet, 3), stop(NODES, 1, 2, Rule::Stem), 5);
+    stops(full, &limited(packet, 2), stop(STEPS, 1, 2, Rule::Stem), 5);
+}
+
+/// The uses of `EIGHT_ARGUMENTS` in their order, with the argument's place. In the fourth, triage is
+/// followed by I on I and by I on the leaf, each as I on the leaf in the first.
+const EIGHT_USES: [(usize, Rule); 19] = [
+    (1, Rule::Spread),
+    (1, Rule::Stem),
+    (1, Rule::Leaf),
+    (1, Rule::Drop),
+    (2, Rule::Leaf),
+    (3, Rule::Stem),
+    (4, Rule::Triage),
+    (4, Rule::Spread),
+    (4, Rule::Stem),
+    (4, Rule::Leaf),
+    (4, Rule::Drop),
+    (4, Rule::Spread),
+    (4, Rule::Stem),
+    (4, Rule::Leaf),
+    (4, Rule::Drop),
+    (5, Rule::Leaf),
+    (6, Rule::Stem),
+    (7, Rule::Drop),
+    (8, Rule::Leaf),
+];
+
+/// The steps of all arguments count. Four nodes are there before the first use: 0, 10 and I of the rule, and
+/// ΔIΔ of the second argument. The uses after 1, 4, 5, 8 and 9 steps make the others: 200, Δ(ΔIΔ), Δ(ΔIΔ)Δ,
+/// KI and ΔI.
+#[test]
+fn stopped_at_each_of_eight_arguments() {
+    let packet = packet_of_eight();
+    let making = [1, 4, 5, 8, 9];
+    for (steps, (place, rule)) in EIGHT_USES.into_iter().enumerate() {
+        let nodes = 4 + making.iter().filter(|before| **before < steps).count();
+        let answer = stop(STEPS, place, steps, rule);
+        stops([18, 99, 2], &limited(&packet, steps as u8), answer, nodes);
+    }
+    let completed = stopped_in([18, 99, 2], &limited(&packet, 19)).0;
+    assert_eq!(completed, alone(0));
+    for (nodes, steps) in (4..).zip(making) {
+        let (place, rule) = EIGHT_USES[steps];
+        let answer = stop(NODES, place, steps, rule);
+        stops([2 * nodes + 1, 99, 2], &packet, answer, nodes);
+    }
+}
+
+/// So many times Δ(ΔΔ) over a tree. Each is a spread that holds a frame while the next is applied.
+fn levels(times: usize, bottom: &str) -> String {
+    "210".repeat(times) + bottom
+}
+
+/// λx. x is 0, 10 and I, and Translate needs ten frames for it. On t it gives t in 4 steps and makes Kt and
+/// Δt. Then ten levels hold the ten frames, after 14 steps: what is next lacks one, an eleventh level by
+/// spread, Δ(ΔΔΔ)Δ by triage.
+#[test]
+fn stopped_for_a_frame() {
+    // Of t are new eleven forks: 3 + 11 + 2 nodes. KK is a 17th, made by a stem after the eleven spreads,
+    // the leaf at the bottom and the leaf of the innermost level: after 4 + 11 + 2 steps.
+    let eleven = same_on(&[&levels(11, "0"), "0"]);
+    let spread = stop(FRAMES, 2, 14, Rule::Spread);
+    stops([34, 30, 4], &eleven, spread, 16);
+    stops([34, 32, 4], &limited(&eleven, 15), spread, 16);
+    let no_step = stop(STEPS, 2, 14, Rule::Spread);
+    stops([34, 30, 4], &limited(&eleven, 14), no_step, 16);
+    stops([34, 33, 4], &limited(&eleven, 14), no_step, 16);
+    stops([32, 33, 4], &eleven, stop(NODES, 2, 17, Rule::Stem), 16);
+    assert_eq!(stopped_in([34, 33, 4], &eleven).0, alone(0));
+    // Of this t are new ten forks, 200 and Δ(ΔΔΔ)Δ: 3 + 12 + 2 nodes.
+    let ten = same_on(&[&levels(10, "22000"), "0"]);
+    stops([50, 30, 4], &ten, stop(FRAMES, 2, 14, Rule::Triage), 17);
+    assert_eq!(stopped_in([50, 33, 4], &ten).0, alone(0));
+}
+
+/// A stop of Translate, Read or Write is Run's number alone.
+#[test]
+fn stopped_before_or_after_applying() {
+    let packet = &PAPER[..13];
+    // Translate: twelve nodes want 24 frames, and five of them are different.
+    stops([9, 71, 3], packet, alone(FRAMES), 0);
+    stops([13, 71, 3], packet, alone(FRAMES), 0);
+    stops([9, 73, 3], packet, alone(NODES), 4);
+    stops([0, 73, 3], packet, alone(NODES), 0);
+    // Read of ΔIΔ lacks a fourth node; six forks in first branches leave seven trees pending, where
+    // Translate of λx. Δ, 0 and 200, needs six frames.
+    stops([7, 99, 2], &packet_of_eight(), alone(NODES), 3);
+    let deep = b"\x01\x00\x02\x02\x00\x02\x00\x0d2222220000000";
+    stops([28, 20, 26], deep, alone(FRAMES), 2);
+    // Write: the text has two digits.
+    stops([13, 73, 1], packet, alone(OUT), 6);
+    stops([13, 73, 0], packet, alone(OUT), 6);
+}
+
+/// g = Δ(Δ(KΔ))Δ on N is Δ on N, ΔN, applied to KΔ on N, the leaf: ΔNΔ, one fork more in first branches. On
+/// nine of them, which leave ten trees pending, g twice makes eleven. Write holds a frame for each.
+///
+/// Nodes: 0, 10 and I; 200, Δ(KΔ) and g; Δg, Kg and the fork of these, G, g twice; eight forks beside 200;
+/// KG and ΔG; ΔN and ΔNΔ, twice: 23.
+#[test]
+fn stopped_by_write_for_a_frame() {
+    let g = "212000";
+    let deep = "2".repeat(9) + &"0".repeat(10);
+    let packet = same_on(&[&format!("21{g}20{g}"), &deep]);
+    stops([46, 32, 23], &packet, alone(FRAMES), 23);
+    assert_eq!(stopped_in([46, 33, 23], &packet).0, alone(0));
+    stops([46, 33, 22], &packet, alone(OUT), 23);
+}
+
+#[test]
+fn stopped_by_the_checks() {
+    let unchanged = |room, packet: &[u8], refusal| {
+        let (stopped, lent) = stopped_in(room, packet);
+        assert_eq!(stopped, alone(refusal));
+        assert_eq!(lent, lent.as_found());
+    };
+    let (room, packet) = ([13, 73, 3], &PAPER[..13]);
+    unchanged([131_073, 73, 3], packet, LIMITS);
+    unchanged([13, 65_537, 3], packet, LIMITS);
+    unchanged([13, 73, 65_536], packet, LIMITS);
+    unchanged([131_073, 73, 3], &[], LIMITS);
+    unchanged(room, &PAPER[..14], PACKET);
+    unchanged(room, &PAPER[..12], PACKET);
+    unchanged(room, &[], PACKET);
+    unchanged([0, 0, 0], &[], PACKET);
+    // A limit of 1,000,001; an open rule; a text that is not whole, an argument's or a label's.
+    let beyond = [packet, b"\x03\x00\x04\x00\x0f\x42\x41"].concat();
+    unchanged(room, &beyond, PACKET);
+    unchanged(room, b"\x01\x00\x03\x02\x03\x01\x02\x00\x010", RULE);
+    unchanged(room, b"\x01\x00\x03\x02\x03\x00\x02\x00\x011", TEXT);
+    unchanged(room, &[packet, b"\x04\x00\x00"].concat(), TEXT);
+}
+
 /// A packet of 14 bytes, and one byte more. The rule λx. Δ, 02 00, is KΔ, 200: of its three nodes two are
 /// different, and Translate wants six frames. Its label is 10, whose leaf is there, and Label makes five.
 const WITH_LABEL: &[u8; 15] = b"\x01\x00\x02\x02\x00\x02\x00\x010\x04\x00\x02100";
@@ -723,30 +956,34 @@ fn apply_of_a_labelled_rule() {
     assert_eq!(call(22, 8, 10), refused_uses(FRAMES, 10));
 }
 
-/// Five counts that all differ, summed over the arguments. I is λx. x, 21010. Nine trees are made: 0, 10
-/// and I of the rule; ΔIΔ of an argument; then 200, Δ(ΔIΔ), Δ(ΔIΔ)Δ, KI and ΔI.
+/// Arguments of λx. x, I, 21010, with the uses that each takes.
+const EIGHT_ARGUMENTS: [(&str, [usize; 5]); 8] = [
+    // I on the leaf gives the leaf: spread, then stem, leaf and drop.
+    ("0", [1, 1, 1, 1, 0]),
+    // The leaf on ΔIΔ gives its stem, and the stem on the leaf the fork Δ(ΔIΔ)Δ.
+    ("2210100", [1, 0, 0, 0, 0]),
+    ("0", [0, 1, 0, 0, 0]),
+    // This on I is triage: I on I gives I, and I on the leaf gives the leaf.
+    ("21010", [2, 2, 2, 2, 1]),
+    // The leaf on the leaf gives ΔΔ, this on the leaf ΔΔΔ, which drops what it is applied to
+    // and gives the leaf, and that on the leaf gives ΔΔ.
+    ("0", [1, 0, 0, 0, 0]),
+    ("0", [0, 1, 0, 0, 0]),
+    ("0", [0, 0, 1, 0, 0]),
+    ("0", [1, 0, 0, 0, 0]),
+];
+
+fn packet_of_eight() -> Vec<u8> {
+    same_on(&EIGHT_ARGUMENTS.map(|(text, _)| text))
+}
+
+/// Five counts that all differ, summed over the arguments. Nine trees are made: 0, 10 and I of the rule; ΔIΔ
+/// of an argument; then 200, Δ(ΔIΔ), Δ(ΔIΔ)Δ, KI and ΔI.
 #[test]
 fn uses_over_arguments() {
-    let arguments: [(&[u8], [usize; 5]); 8] = [
-        // I on the leaf gives the leaf: spread, then stem, leaf and drop.
-        (b"0", [1, 1, 1, 1, 0]),
-        // The leaf on ΔIΔ gives its stem, and the stem on the leaf the fork Δ(ΔIΔ)Δ.
-        (b"2210100", [1, 0, 0, 0, 0]),
-        (b"0", [0, 1, 0, 0, 0]),
-        // This on I is triage: I on I gives I, and I on the leaf gives the leaf.
-        (b"21010", [2, 2, 2, 2, 1]),
-        // The leaf on the leaf gives ΔΔ, this on the leaf ΔΔΔ, which drops what it is applied to
-        // and gives the leaf, and that on the leaf gives ΔΔ.
-        (b"0", [1, 0, 0, 0, 0]),
-        (b"0", [0, 1, 0, 0, 0]),
-        (b"0", [0, 0, 1, 0, 0]),
-        (b"0", [1, 0, 0, 0, 0]),
-    ];
-    let mut packet = vec![1, 0, 3, 2, 3, 0];
+    let packet = packet_of_eight();
     let mut counts = [0; 5];
-    for (text, uses) in arguments {
-        packet.extend([2, 0, text.len() as u8]);
-        packet.extend(text);
+    for (_, uses) in EIGHT_ARGUMENTS {
         counts = std::array::from_fn(|i| counts[i] + uses[i]);
     }
     assert_eq!(counts, [6, 5, 4, 3, 1]);
@@ -960,6 +1197,10 @@ fn each_call(words: usize, rule: &[u8], refusal: usize) {
     assert_eq!(lazvorn::same(&lent, 3, 2, 1).refusal, 0);
     assert_eq!(
         lazvorn::run(&mut lent, &mut stack, &mut out, &packet).refusal,
+        refusal
+    );
+    assert_eq!(
+        lazvorn::stopped(&mut lent, &mut stack, &mut out, &packet).refusal,
         refusal
     );
     assert_eq!(

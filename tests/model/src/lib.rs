@@ -30,6 +30,10 @@ pub type Parts = [usize; 6];
 /// Of two nodes ([8]): refusal, 1 if their trees are equal.
 pub type Same = [usize; 2];
 
+/// Of a run that may stop ([14]): Run's refusal, and for a stop while applying the argument's place from 1,
+/// the steps of the whole run and the rule wanted, from 1 for leaf to 5 for triage; else 0 for these.
+pub type Stopped = [usize; 4];
+
 /// How often each rule was used.
 type Uses = [usize; 5];
 
@@ -504,18 +508,48 @@ struct Machine<'a> {
     uses: Uses,
 }
 
+/// Where applying stopped: the refusal, the steps taken before, and the place of the rule wanted.
+struct Stop {
+    number: Refusal,
+    steps: usize,
+    rule: usize,
+}
+
 impl Machine<'_> {
-    /// One use of a rule: 7, then 9 if it needs a frame beside `held`. A rule that needs a node needs no
-    /// frame, and `make` gives its 8.
-    fn step(&mut self, wanted: Use, held: usize) -> Result<(), Refusal> {
+    /// A use that lacks what this number says.
+    fn stop(&self, wanted: Use, number: Refusal) -> Stop {
+        Stop {
+            number,
+            steps: self.steps(),
+            rule: wanted.place,
+        }
+    }
+
+    /// One use of a rule that makes nothing: 7, then 9 if it needs a frame beside `held`.
+    fn step(&mut self, wanted: Use, held: usize) -> Result<(), Stop> {
         if self.steps() == self.limit {
-            return Err(7);
+            return Err(self.stop(wanted, 7));
         }
         if wanted.frame && held == self.frames {
-            return Err(9);
+            return Err(self.stop(wanted, 9));
         }
         self.uses[wanted.place] += 1;
         Ok(())
+    }
+
+    /// One use of a rule that makes a tree and needs no frame: 7, then 8.
+    fn grow(&mut self, wanted: Use, shape: Shape) -> Result<Rc<Tree>, Stop> {
+        if self.steps() == self.limit {
+            return Err(self.stop(wanted, 7));
+        }
+        let place = wanted.place;
+        match self.make(shape) {
+            Err(number) => Err(self.stop(wanted, number)),
+            Ok(tree) => {
+                self.uses[place] += 1;
+                Ok(tree)
+            }
+        }
     }
 
     fn steps(&self) -> usize {
@@ -538,18 +572,12 @@ impl Machine<'_> {
 
     /// f applied to n while `held` frames are held. The last application of spread and of triage
     /// holds none, so it takes another turn of the loop.
-    fn apply(&mut self, f: Rc<Tree>, n: Rc<Tree>, held: usize) -> Result<Rc<Tree>, Refusal> {
+    fn apply(&mut self, f: Rc<Tree>, n: Rc<Tree>, held: usize) -> Result<Rc<Tree>, Stop> {
         let (mut f, mut n) = (f, n);
         loop {
             let (next, argument) = match &f.shape {
-                Shape::Leaf => {
-                    self.step(LEAF, held)?;
-                    return self.make(Shape::Stem(n));
-                }
-                Shape::Stem(p) => {
-                    self.step(STEM, held)?;
-                    return self.make(Shape::Fork(p.clone(), n));
-                }
+                Shape::Leaf => return self.grow(LEAF, Shape::Stem(n)),
+                Shape::Stem(p) => return self.grow(STEM, Shape::Fork(p.clone(), n)),
                 Shape::Fork(first, y) => match &first.shape {
                     Shape::Leaf => {
                         self.step(DROP, held)?;
@@ -588,9 +616,22 @@ pub fn apply(
     if function >= used || argument >= used {
         return refused_uses(3, used);
     }
+    match applied(memory, used, [function, argument], limit) {
+        Err(stop) => refused_uses(stop.number, used),
+        Ok(answer) => answer,
+    }
+}
+
+/// Apply after its checks.
+fn applied(
+    memory: &mut Memory,
+    used: usize,
+    nodes: [usize; 2],
+    limit: usize,
+) -> Result<Counted, Stop> {
     let frames = memory.frames();
     let trees = trees(&memory.table, used);
-    let (function, argument) = (trees[function].clone(), trees[argument].clone());
+    let [function, argument] = nodes.map(|node| trees[node].clone());
     let mut machine = Machine {
         nodes: Nodes::new(&mut memory.table, used),
         trees,
@@ -601,13 +642,10 @@ pub fn apply(
     let result = machine.apply(function, argument, 0);
     let (end, uses) = (machine.nodes.used, machine.uses);
     memory.stack.fill(0);
-    match result {
-        Err(number) => {
-            memory.undo(used, end);
-            refused_uses(number, used)
-        }
-        Ok(tree) => counted([0, tree.node, end, uses.iter().sum(), 0], uses),
+    if result.is_err() {
+        memory.undo(used, end);
     }
+    result.map(|tree| counted([0, tree.node, end, uses.iter().sum(), 0], uses))
 }
 
 // ---- labels
@@ -796,44 +834,58 @@ fn checked<'a>(memory: &Memory, packet: &'a [u8], reader: Reader) -> Result<Pack
 
 /// Run of a packet: a label whose text is whole changes nothing.
 pub fn run(memory: &mut Memory, packet: &[u8]) -> Counted {
+    run_to(memory, packet).0
+}
+
+/// "A tool runs a packet alone" and tells of a stop while applying; "for every other outcome it gives Run's
+/// number alone" ([14]). It leaves what Run leaves.
+pub fn stopped(memory: &mut Memory, packet: &[u8]) -> Stopped {
+    run_to(memory, packet).1
+}
+
+/// Run, and where it stopped.
+pub fn run_to(memory: &mut Memory, packet: &[u8]) -> (Counted, Stopped) {
     let packet = match checked(memory, packet, Reader::Run) {
         Ok(packet) => packet,
-        Err(number) => return refused_uses(number, 0),
+        Err(number) => return (refused_uses(number, 0), alone(number)),
     };
     let mut used = 0;
     match stages(memory, &packet, &mut used) {
-        Ok(answer) => answer,
-        Err(number) => {
+        Ok(answer) => (answer, alone(0)),
+        Err(stopped) => {
             memory.undo(0, used);
-            refused_uses(number, 0)
+            (refused_uses(stopped[0], 0), stopped)
         }
     }
 }
 
+/// Run's number alone.
+fn alone(number: Refusal) -> Stopped {
+    [number, 0, 0, 0]
+}
+
 /// The operations in a packet's order. `used` is the count of nodes made by those that succeeded.
-fn stages(memory: &mut Memory, packet: &Packet, used: &mut usize) -> Result<Counted, Refusal> {
-    let mut node = taken(translate(memory, 0, packet.rule), used)?[1];
+fn stages(memory: &mut Memory, packet: &Packet, used: &mut usize) -> Result<Counted, Stopped> {
+    let rule = taken(translate(memory, 0, packet.rule), used).map_err(alone)?;
     let mut arguments = Vec::new();
     for text in &packet.arguments {
-        arguments.push(taken(read(memory, *used, text), used)?[1]);
+        let read = taken(read(memory, *used, text), used).map_err(alone)?;
+        arguments.push(read[1]);
     }
-    let (mut steps, mut uses) = (0, [0; 5]);
-    for argument in arguments {
-        let applied = taken(
-            apply(memory, *used, node, argument, packet.limit - steps),
-            used,
-        )?;
-        node = applied[1];
-        steps += applied[3];
-        uses.iter_mut()
-            .zip(&applied[5..])
-            .for_each(|(sum, more)| *sum += more);
+    let (mut node, mut steps, mut uses) = (rule[1], 0, [0; 5]);
+    for (i, argument) in arguments.into_iter().enumerate() {
+        let applied = applied(memory, *used, [node, argument], packet.limit - steps);
+        let answer =
+            applied.map_err(|stop| [stop.number, i + 1, steps + stop.steps, stop.rule + 1])?;
+        [node, *used] = [answer[1], answer[2]];
+        steps += answer[3];
+        uses = std::array::from_fn(|rule| uses[rule] + answer[5 + rule]);
     }
-    let written = taken(write(memory, *used, node), used)?;
+    let written = taken(write(memory, *used, node), used).map_err(alone)?;
     Ok(counted([0, 0, *used, steps, written[4]], uses))
 }
 
-fn taken<const N: usize>(answer: [usize; N], used: &mut usize) -> Result<[usize; N], Refusal> {
+fn taken(answer: Answer, used: &mut usize) -> Result<Answer, Refusal> {
     match answer[0] {
         0 => {
             *used = answer[2];

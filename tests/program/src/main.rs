@@ -1,10 +1,10 @@
 //! Sends packets to the built program, at each border of what it reads and lends, and compares all
 //! that it prints with the line that documents 01 and 02 give for the packet. The comments derive each
 //! line from the papers; the second evaluator, written from the papers too, must give the same. Then
-//! texts go to the program that reads rule text, and packets with labels to the one that labels rules.
-//! The exit status is 1 where anything differs.
+//! texts go to the program that reads rule text, packets with labels to the one that labels rules, and
+//! packets that stop to the one that tells where. The exit status is 1 where anything differs.
 //!
-//! `program LAZVORN RULE_TEXT LABEL_PACKET`, in the gate those of `target/bin`.
+//! `program LAZVORN RULE_TEXT LABEL_PACKET STOPPED`, in the gate those of `target/bin`.
 //!
 //! What the derivations use, with "used" for the nodes in use and "made" for the new ones of Apply:
 //! - A rule of k leaves and variables under one abstraction, m of them its variable, is a tree of
@@ -16,6 +16,7 @@
 
 mod label_packet;
 mod rule_text;
+mod stopped;
 
 use compare::PAPERS;
 use std::io::{ErrorKind, Write};
@@ -45,6 +46,14 @@ fn case(name: &'static str, packet: Vec<u8>, line: impl Into<String>) -> Case {
 
 fn refused(name: &'static str, packet: Vec<u8>, number: usize) -> Case {
     case(name, packet, format!("{number} 0 0 -"))
+}
+
+/// A case whose packet is sent in two pieces.
+fn in_two(cut: usize, case: Case) -> Case {
+    Case {
+        cut: Some(cut),
+        ..case
+    }
 }
 
 // ---- packets, rules and texts
@@ -128,10 +137,6 @@ fn lengths() -> Vec<Case> {
     let whole_but_longer = packet(LEAF, &[&stems(16_377)]);
     let more_after_it = [&longest[..], b"0"].concat();
     let far_longer = [&longest[..], &[b'0'; 100_000]].concat();
-    let in_two = |cut, case| Case {
-        cut: Some(cut),
-        ..case
-    };
     vec![
         refused("no byte", Vec::new(), 6),
         refused("16,384 bytes", longest.clone(), 8),
@@ -552,14 +557,15 @@ fn compare(program: &Path) -> bool {
 
 fn main() {
     let paths: Vec<PathBuf> = std::env::args_os().skip(1).map(PathBuf::from).collect();
-    let Ok([lazvorn, rule_text, label_packet]) = <[PathBuf; 3]>::try_from(paths) else {
-        eprintln!("usage: program LAZVORN RULE_TEXT LABEL_PACKET");
+    let Ok([lazvorn, rule_text, label_packet, stopped]) = <[PathBuf; 4]>::try_from(paths) else {
+        eprintln!("usage: program LAZVORN RULE_TEXT LABEL_PACKET STOPPED");
         std::process::exit(2);
     };
     let all = move || {
         compare(&lazvorn)
             & rule_text::compare(&lazvorn, &rule_text)
             & label_packet::compare(&lazvorn, &label_packet)
+            & stopped::compare(&stopped)
     };
     // The second evaluator recurses as deep as trees and frames go.
     let thread = std::thread::Builder::new().stack_size(1 << 28);

@@ -23,6 +23,9 @@ apply-nodes-requires c κs =
     let a = b .args in
     (b .pre .0, d .before .if1 .left, d .if2 .left, within-limit (a .table .now) (a .used) (a .stack .now) (a .function) (a .argument) (a .limit) (b .pre .1))
 
+applied-requires : tie.Need-applied-requires
+applied-requires c κs = search needs
+
 same-length : tie.Need-same-length
 same-length c = search needs
 
@@ -34,11 +37,12 @@ same-length-3 c = search needs
 
 returns-3 : tie.Need-returns-3
 returns-3 c =
-    let e = c .before .before .before .before .before .before in
+    let e = c .before .before .before .before .before .before .before in
     let d = e .before .before .before .before in
     let b = d .before .before .before .before .before in
     let a = b .args in
-    by-nodes (a .table .now) (a .used) (a .stack .now) (a .function) (a .argument) (a .limit) (b .pre .1) (d .before .if1 .left) (d .if2 .left) _ (e .apply-nodes .ensures .0)
+    by-nodes (a .table .now) (a .used) (a .stack .now) (a .function) (a .argument) (a .limit) (b .pre .1) (d .before .if1 .left) (d .if2 .left) (e .apply-nodes .ensures .0)
+    (c .applied .ensures)
 
 pub apply-checked-spec : {M : Type 1} → statement M
 apply-checked-spec =
@@ -47,6 +51,7 @@ apply-checked-spec =
     returns
     returns-2
     apply-nodes-requires
+    applied-requires
     same-length
     same-length-2
     same-length-3

@@ -18,9 +18,7 @@ enum-told-2 : tie.Need-enum-told-2
 enum-told-2 c = search needs
 
 sum-requires : tie.Need-sum-requires
-sum-requires c κs =
-    let z = c .before .before .before .before .before .before in
-    z .before .before .before .pre .2 (c .enum-told2 .given .1)
+sum-requires c κs = c .before .before .before .before .before .before .before .before .before .pre .3
 
 enum-told-3 : tie.Need-enum-told-3
 enum-told-3 c = search needs

@@ -51,7 +51,7 @@ kept c x y r e n q = (used c _ r e q, use-ready x (words c) y (lent c) (start c)
 wanted-requires : tie.Need-wanted-requires
 wanted-requires c κs =
     let a = c .before .before .before .before in
-    reach (a .args .state) (a .args .table .now) (a .args .stack .now) (a .pre .0)
+    reach (a .pre .0 .fine) (a .pre .0 .function-in)
 
 enum-told : tie.Need-enum-told
 enum-told c = search needs

@@ -1,11 +1,10 @@
 -- `stages::apply_all` meets its contract. The loop's invariant: the applications left come to what all of them do. Assumes nothing.
-use Prim.Native.Nat.{ℕ, _-_, _≤_}
-use lib.ListN.{length}
-use mathlib.Core.Path.{_≡_, refl, sym, ap, _∙_}
+use Prim.Native.Nat.{_-_}
+use mathlib.Core.Path.{_∙_}
 use native.Mathlib.Omega.{arith}
 use borrow.Author.Needs.{needs}
 use Rattle.endings.proofs.Ways.{in-table}
-use Rattle.stages.proofs.Ways.{applied-not, Applying, applies-begin, argument-in, applies-end, applies-next, applies-stop, applies-steps}
+use Rattle.stages.proofs.Ways.{Applying, applies-begin, argument-in, applies-end, applies-next, applies-stop, stop-steps, applies-steps, tells}
 use Rattle.stages.proofs.apply_all.Statement.{statement}
 use Rattle.stages.proofs.apply_all.Tie as tie
 
@@ -44,24 +43,32 @@ enum-known-answer c = search needs
 enum-told : tie.Need-enum-told Inv-loop μ-loop
 enum-told c = search needs
 
-applied-refusal-requires : tie.Need-applied-refusal-requires Inv-loop μ-loop
-applied-refusal-requires c κs = applied-not (c .before .before .enum-told .given .1)
+add-stop-applying : tie.Need-add-stop-applying Inv-loop μ-loop
+add-stop-applying c = omega (arith, c .before .before .before .before .before .before .before .before .before .before .before .before .before .before .before .before .before .before .before .before .before .pre .3)
 
-stop-requires : tie.Need-stop-requires Inv-loop μ-loop
-stop-requires c κs = omega (arith, c .before .before .before .before .before .before .before .before .before .before .before .apply-nodes .kept .0, in-table (c .before .before .before .before .before .before .before .before .before .before .before .before .before .before .before .before .before .loop .inv .ready))
+stop-applying-requires : tie.Need-stop-applying-requires Inv-loop μ-loop
+stop-applying-requires c κs =
+    let d = c .before .before .before .before .before .before .before .before .before .before in
+    let l = d .before .before .before .before .before .before in
+    let i = l .loop .inv in (
+      omega (arith, d .apply-nodes .kept .0, in-table (i .ready)),
+      omega (arith, d .before .before .before .before .sum .ensures, i .within-limit, i .limited),
+      stop-steps i (d .before .before .before .before .before .loop-test .taken) (rw (d .before .before .before .before .sum .ensures) at (d .apply-nodes .ensures .0)),
+    )
 
 same-length : tie.Need-same-length Inv-loop μ-loop
-same-length c = c .before .before .before .before .stop .kept .0 ∙ c .before .before .before .before .before .before .before .before .before .before .before .before .before .before .before .before .apply-nodes .kept .0 ∙ c .before .before .before .before .before .before .before .before .before .before .before .before .before .before .before .before .before .before .before .before .before .before .loop .inv .same-table
+same-length c = c .before .before .before .before .stop-applying .kept .0 ∙ c .before .before .before .before .before .before .before .before .before .before .before .before .before .before .before .apply-nodes .kept .0 ∙ c .before .before .before .before .before .before .before .before .before .before .before .before .before .before .before .before .before .before .before .before .before .loop .inv .same-table
 
 same-length-2 : tie.Need-same-length-2 Inv-loop μ-loop
-same-length-2 c = c .before .before .before .before .stop .kept .1 .1 .0 ∙ c .before .before .before .before .before .before .before .before .before .before .before .before .before .before .before .before .apply-nodes .kept .1 .1 .0 ∙ c .before .before .before .before .before .before .before .before .before .before .before .before .before .before .before .before .before .before .before .before .before .before .loop .inv .same-stack
+same-length-2 c = c .before .before .before .before .stop-applying .kept .1 .1 .0 ∙ c .before .before .before .before .before .before .before .before .before .before .before .before .before .before .before .apply-nodes .kept .1 .1 .0 ∙ c .before .before .before .before .before .before .before .before .before .before .before .before .before .before .before .before .before .before .before .before .before .loop .inv .same-stack
 
 same-length-3 : tie.Need-same-length-3 Inv-loop μ-loop
-same-length-3 c = c .before .before .before .before .before .before .before .before .before .before .before .before .before .before .before .before .apply-nodes .kept .1 .1 .1 .1 .1 .1 .0 ∙ c .before .before .before .before .before .before .before .before .before .before .before .before .before .before .before .before .before .before .before .before .before .before .loop .inv .same-index
+same-length-3 c = c .before .before .before .before .before .before .before .before .before .before .before .before .before .before .before .apply-nodes .kept .1 .1 .1 .1 .1 .1 .0 ∙ c .before .before .before .before .before .before .before .before .before .before .before .before .before .before .before .before .before .before .before .before .before .loop .inv .same-index
 
 returns : tie.Need-returns Inv-loop μ-loop
 returns c =
-    applies-stop (c .before .before .before .before .before .before .before .before .before .before .before .before .before .before .before .before .before .before .before .before .before .before .loop .inv) (c .before .before .before .before .before .before .before .before .before .before .before .before .before .before .before .before .before .before .before .before .before .loop-test .taken) (rw (c .before .before .before .before .before .before .before .before .before .before .before .before .before .before .before .before .before .before .before .before .sum .ensures) at (c .before .before .before .before .before .before .before .before .before .before .before .before .before .before .before .before .apply-nodes .ensures .0)) (c .before .before .before .before .before .applied-refusal .ensures) (c .before .before .before .before .stop .ensures _)
+    applies-stop (c .before .before .before .before .before .before .before .before .before .before .before .before .before .before .before .before .before .before .before .before .before .loop .inv) (c .before .before .before .before .before .before .before .before .before .before .before .before .before .before .before .before .before .before .before .before .loop-test .taken) (rw (c .before .before .before .before .before .before .before .before .before .before .before .before .before .before .before .before .before .before .before .sum .ensures) at (c .before .before .before .before .before .before .before .before .before .before .before .before .before .before .before .apply-nodes .ensures .0)) (c .before .before .before .before .before .before .before .before .before .before .before .before .before .before .before .before .before .before .before .sum .ensures)
+    (c .before .before .before .before .before .before .before .enum-told .given .1) (c .before .before .before .before .stop-applying .ensures _ _ _ _ (c .before .before .before .before .before .before .before .enum-told .given .1))
 
 plus-requires : tie.Need-plus-requires Inv-loop μ-loop
 plus-requires c κs =
@@ -85,20 +92,23 @@ write-outcome-requires c κs =
     let i = c .before .before .before .before .loop .inv in
     (i .ready, i .function-in, omega (arith, i .within-limit, i .limited))
 
+tell-requires : tie.Need-tell-requires Inv-loop μ-loop
+tell-requires c κs = search needs
+
 same-length-4 : tie.Need-same-length-4 Inv-loop μ-loop
-same-length-4 c = c .before .before .before .before .before .before .write-outcome .kept .0 ∙ c .before .before .before .before .before .before .before .before .before .before .before .loop .inv .same-table
+same-length-4 c = c .before .before .before .before .before .before .before .write-outcome .kept .0 ∙ c .before .before .before .before .before .before .before .before .before .before .before .before .loop .inv .same-table
 
 same-length-5 : tie.Need-same-length-5 Inv-loop μ-loop
-same-length-5 c = c .before .before .before .before .before .before .write-outcome .kept .1 .1 .0 ∙ c .before .before .before .before .before .before .before .before .before .before .before .loop .inv .same-stack
+same-length-5 c = c .before .before .before .before .before .before .before .write-outcome .kept .1 .1 .0 ∙ c .before .before .before .before .before .before .before .before .before .before .before .before .loop .inv .same-stack
 
 same-length-6 : tie.Need-same-length-6 Inv-loop μ-loop
-same-length-6 c = c .before .before .before .before .before .before .write-outcome .kept .1 .1 .1 .0
+same-length-6 c = c .before .before .before .before .before .before .before .write-outcome .kept .1 .1 .1 .0
 
 same-length-7 : tie.Need-same-length-7 Inv-loop μ-loop
-same-length-7 c = c .before .before .before .before .before .before .before .before .before .before .before .loop .inv .same-index
+same-length-7 c = c .before .before .before .before .before .before .before .before .before .before .before .before .loop .inv .same-index
 
 returns-2 : tie.Need-returns-2 Inv-loop μ-loop
-returns-2 c = applies-end (c .before .before .before .before .before .before .before .before .before .before .before .loop .inv) (c .before .before .before .before .before .before .before .before .before .before .loop-test .left) (c .before .before .before .before .before .before .write-outcome .ensures)
+returns-2 c = applies-end (c .before .before .before .before .before .before .before .before .before .before .before .before .loop .inv) (c .before .before .before .before .before .before .before .before .before .before .before .loop-test .left) (tells (c .tell .ensures) (c .before .before .before .before .before .before .before .write-outcome .ensures))
 
 pub apply-all-spec : {M : Type 1} → statement M
 apply-all-spec =
@@ -114,8 +124,8 @@ apply-all-spec =
     apply-nodes-requires
     enum-known-answer
     enum-told
-    applied-refusal-requires
-    stop-requires
+    add-stop-applying
+    stop-applying-requires
     same-length
     same-length-2
     same-length-3
@@ -125,6 +135,7 @@ apply-all-spec =
     loop-less
     loop-again
     write-outcome-requires
+    tell-requires
     same-length-4
     same-length-5
     same-length-6

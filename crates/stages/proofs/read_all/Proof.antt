@@ -1,21 +1,20 @@
 -- `stages::read_all` meets its contract. The loop's invariant: the texts left come to what all of them do, and so many nodes are kept.
 -- Assumes nothing.
-use Prim.Native.Nat.{ℕ, _-_}
-use lib.ListN.{length-set}
-use mathlib.Core.Path.{_≡_, refl, sym, ap, _∙_}
+use Prim.Native.Nat.{_-_}
+use mathlib.Core.Path.{refl, _∙_}
 use native.Mathlib.Omega.{arith}
 use borrow.Author.Needs.{needs}
 use Rattle.calculus.specs.Uses.{noUses}
 use Rattle.packet.proofs.Parts.{next-field, part-value}
-use Rattle.running.specs.Run.{applies}
+use Rattle.running.specs.Tell.{tellApplies}
 use Rattle.endings.proofs.Ways.{made-not, in-table}
-use Rattle.stages.proofs.Ways.{Reading, reads-begin, reads-all, reads-end, reads-next, reads-stop}
+use Rattle.stages.proofs.Ways.{Reading, reads-begin, reads-all, reads-end, reads-next, reads-stop, tells}
 use Rattle.stages.proofs.read_all.Statement.{statement}
 use Rattle.stages.proofs.read_all.Tie as tie
 
 abbrev Inv-loop : tie.InvT-loop
 Inv-loop table₀ used stack₀ out packet from work index₀ slots count nodes₀ at₀ in-use₀ kept₀ table stack index nodes at in-use kept =
-    Reading packet count out (λ ns w u s. applies ns (work .limit) w u s out (work .rule) noUses) (work .rule) table₀ used stack₀ from slots index₀ table stack index nodes at in-use kept
+    Reading packet count out (λ ns w u s. tellApplies 1 ns (work .limit) w u s out (work .rule) noUses) (work .rule) table₀ used stack₀ from slots index₀ table stack index nodes at in-use kept
 
 abbrev μ-loop : tie.MeasureT-loop
 μ-loop table₀ used stack₀ out packet from work index₀ slots count nodes₀ at₀ in-use₀ kept₀ table stack index nodes at in-use kept = count - kept
@@ -52,19 +51,22 @@ made-refusal-requires c κs = made-not (c .before .before .enum-told .given .1)
 stop-requires : tie.Need-stop-requires Inv-loop μ-loop
 stop-requires c κs = omega (arith, c .before .before .before .before .before .before .before .before .before .before .before .read-text .kept .0, in-table (c .before .before .before .before .before .before .before .before .before .before .before .before .before .before .before .before .before .before .loop .inv .ready))
 
+tell-requires : tie.Need-tell-requires Inv-loop μ-loop
+tell-requires c κs = search needs
+
 same-length : tie.Need-same-length Inv-loop μ-loop
-same-length c = c .before .before .before .before .stop .kept .0 ∙ c .before .before .before .before .before .before .before .before .before .before .before .before .before .before .before .before .read-text .kept .0 ∙ c .before .before .before .before .before .before .before .before .before .before .before .before .before .before .before .before .before .before .before .before .before .before .before .loop .inv .same-table
+same-length c = c .before .before .before .before .before .stop .kept .0 ∙ c .before .before .before .before .before .before .before .before .before .before .before .before .before .before .before .before .before .read-text .kept .0 ∙ c .before .before .before .before .before .before .before .before .before .before .before .before .before .before .before .before .before .before .before .before .before .before .before .before .loop .inv .same-table
 
 same-length-2 : tie.Need-same-length-2 Inv-loop μ-loop
-same-length-2 c = c .before .before .before .before .stop .kept .1 .1 .0 ∙ c .before .before .before .before .before .before .before .before .before .before .before .before .before .before .before .before .read-text .kept .1 .1 .0 ∙ c .before .before .before .before .before .before .before .before .before .before .before .before .before .before .before .before .before .before .before .before .before .before .before .loop .inv .same-stack
+same-length-2 c = c .before .before .before .before .before .stop .kept .1 .1 .0 ∙ c .before .before .before .before .before .before .before .before .before .before .before .before .before .before .before .before .before .read-text .kept .1 .1 .0 ∙ c .before .before .before .before .before .before .before .before .before .before .before .before .before .before .before .before .before .before .before .before .before .before .before .before .loop .inv .same-stack
 
 same-length-3 : tie.Need-same-length-3 Inv-loop μ-loop
-same-length-3 c = c .before .before .before .before .before .before .before .before .before .before .before .before .before .before .before .before .read-text .kept .1 .1 .1 .1 .0 ∙ c .before .before .before .before .before .before .before .before .before .before .before .before .before .before .before .before .before .before .before .before .before .before .before .loop .inv .same-index
+same-length-3 c = c .before .before .before .before .before .before .before .before .before .before .before .before .before .before .before .before .before .read-text .kept .1 .1 .1 .1 .0 ∙ c .before .before .before .before .before .before .before .before .before .before .before .before .before .before .before .before .before .before .before .before .before .before .before .before .loop .inv .same-index
 
 returns : tie.Need-returns Inv-loop μ-loop
 returns c =
-    reads-stop (c .before .before .before .before .before .before .before .before .before .before .before .before .before .before .before .before .before .before .before .before .before .before .before .loop .inv) (c .before .before .before .before .before .before .before .before .before .before .before .before .before .before .before .before .before .before .before .before .before .before .loop-test .taken) (rw (c .before .before .before .before .before .before .before .before .before .before .before .before .before .before .before .before .before .before .before .before .before .part-at .ensures, part-value) at (c .before .before .before .before .before .before .before .before .before .before .before .before .before .before .before .before .read-text .ensures .0))
-    (c .before .before .before .before .before .made-refusal .ensures) (c .before .before .before .before .stop .ensures _)
+    reads-stop (c .before .before .before .before .before .before .before .before .before .before .before .before .before .before .before .before .before .before .before .before .before .before .before .before .loop .inv) (c .before .before .before .before .before .before .before .before .before .before .before .before .before .before .before .before .before .before .before .before .before .before .before .loop-test .taken) (rw (c .before .before .before .before .before .before .before .before .before .before .before .before .before .before .before .before .before .before .before .before .before .before .part-at .ensures, part-value) at (c .before .before .before .before .before .before .before .before .before .before .before .before .before .before .before .before .before .read-text .ensures .0))
+    (c .before .before .before .before .before .before .made-refusal .ensures) (tells (c .tell .ensures) (c .before .before .before .before .before .stop .ensures _))
 
 mul-nodes : tie.Need-mul-nodes Inv-loop μ-loop
 mul-nodes c = omega (arith, c .before .before .before .before .before .before .before .before .before .before .before .before .before .before .before .before .before .before .before .before .before .before .pre .3)
@@ -121,6 +123,7 @@ read-all-spec =
     enum-told
     made-refusal-requires
     stop-requires
+    tell-requires
     same-length
     same-length-2
     same-length-3

@@ -1,10 +1,10 @@
 -- `stages::run_stages` meets its contract. Assumes nothing.
-use mathlib.Core.Path.{_≡_, refl, sym, ap, _∙_}
+use mathlib.Core.Path.{_∙_}
 use native.Mathlib.Omega.{arith}
 use Rattle.packet.specs.Code.{valueAt, packetAt}
 use Rattle.packet.proofs.Parts.{part-value}
 use Rattle.endings.proofs.Ways.{made-not, translate-ready}
-use Rattle.stages.proofs.Ways.{stages-next, stages-stop}
+use Rattle.stages.proofs.Ways.{stages-next, stages-stop, tells}
 use Rattle.index.proofs.Ready.{made-ready}
 use borrow.Author.Needs.{needs}
 use Rattle.stages.proofs.run_stages.Statement.{statement}
@@ -37,20 +37,23 @@ made-refusal-requires c κs = made-not (c .before .before .enum-told .given .1)
 stop-requires : tie.Need-stop-requires
 stop-requires c κs = search needs
 
+tell-requires : tie.Need-tell-requires
+tell-requires c κs = search needs
+
 same-length : tie.Need-same-length
-same-length c = c .before .before .before .before .stop .kept .0 ∙ c .before .before .before .before .before .before .before .before .before .before .before .before .before .before .before .before .translate-rule .kept .0
+same-length c = c .before .before .before .before .before .stop .kept .0 ∙ c .before .before .before .before .before .before .before .before .before .before .before .before .before .before .before .before .before .translate-rule .kept .0
 
 same-length-2 : tie.Need-same-length-2
-same-length-2 c = c .before .before .before .before .stop .kept .1 .1 .0 ∙ c .before .before .before .before .before .before .before .before .before .before .before .before .before .before .before .before .translate-rule .kept .1 .1 .0
+same-length-2 c = c .before .before .before .before .before .stop .kept .1 .1 .0 ∙ c .before .before .before .before .before .before .before .before .before .before .before .before .before .before .before .before .before .translate-rule .kept .1 .1 .0
 
 same-length-3 : tie.Need-same-length-3
-same-length-3 c = c .before .before .before .before .before .before .before .before .before .before .before .before .before .before .before .before .translate-rule .kept .1 .1 .1 .1 .0
+same-length-3 c = c .before .before .before .before .before .before .before .before .before .before .before .before .before .before .before .before .before .translate-rule .kept .1 .1 .1 .1 .0
 
 returns : tie.Need-returns
 returns c =
-    let a = c .before .before .before .before .before .before .before .before .before .before .before .before .before .before .before .before .before .before .before .before .before .before .before .before .before .before .before .args in
-    stages-stop (c .before .before .before .before .before .before .before .before .before .before .before .before .before .before .before .before .before .before .before .before .before .before .before .before .before .before .before .pre .0 .ready) (packetAt (a .packet .now) (a .count) (a .limit) 0)
-    (rw (c .before .before .before .before .before .before .before .before .before .before .before .before .before .before .before .before .before .before .before .before .before .part-at .ensures, part-value (a .packet .now) 0) at (c .before .before .before .before .before .before .before .before .before .before .before .before .before .before .before .before .translate-rule .ensures .0)) (c .before .before .before .before .before .made-refusal .ensures) (c .before .before .before .before .stop .ensures _)
+    let a = c .before .before .before .before .before .before .before .before .before .before .before .before .before .before .before .before .before .before .before .before .before .before .before .before .before .before .before .before .args in
+    stages-stop (c .before .before .before .before .before .before .before .before .before .before .before .before .before .before .before .before .before .before .before .before .before .before .before .before .before .before .before .before .pre .0 .ready) (packetAt (a .packet .now) (a .count) (a .limit) 0)
+    (rw (c .before .before .before .before .before .before .before .before .before .before .before .before .before .before .before .before .before .before .before .before .before .before .part-at .ensures, part-value (a .packet .now) 0) at (c .before .before .before .before .before .before .before .before .before .before .before .before .before .before .before .before .before .translate-rule .ensures .0)) (c .before .before .before .before .before .before .made-refusal .ensures) (tells (c .tell .ensures) (c .before .before .before .before .before .stop .ensures _))
 
 read-all-requires : tie.Need-read-all-requires
 read-all-requires c κs =
@@ -92,6 +95,7 @@ run-stages-spec =
     enum-told
     made-refusal-requires
     stop-requires
+    tell-requires
     same-length
     same-length-2
     same-length-3

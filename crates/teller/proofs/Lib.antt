@@ -1,0 +1,2 @@
+-- The laws that the proofs of a packet's run cite.
+pub mod Ways
