@@ -1209,6 +1209,20 @@ fn each_call(words: usize, rule: &[u8], refusal: usize) {
     );
 }
 
+/// `stopped` with a table of so many words, on a packet with this rule, a leaf and no step. Unless nodes for
+/// the rule are lacking it stops while applying: the rule's tree is a spread.
+fn a_stop(words: usize, rule: &[u8], refusal: usize) {
+    let head = [1, (rule.len() >> 8) as u8, rule.len() as u8];
+    let packet = limited(&[&head, rule, &[2, 0, 1, b'0']].concat(), 0);
+    let (mut stack, mut out) = (vec![NOISE; 65_536], vec![BYTE; 65_535]);
+    let stopped = lazvorn::stopped(&mut table(words), &mut stack, &mut out, &packet);
+    let expected = match refusal {
+        0 => stop(STEPS, 1, 0, Rule::Spread),
+        _ => alone(refusal),
+    };
+    assert_eq!(stopped, expected);
+}
+
 /// The stack that include/lazvorn.h names for each length of table, and what a thread itself needs.
 #[test]
 fn calls_on_the_stack_that_the_header_names() {
@@ -1223,17 +1237,14 @@ fn calls_on_the_stack_that_the_header_names() {
         (16_385, 400),
         (131_072, 400),
     ] {
-        let rule = deep.clone();
         let deepest = if words < 16_384 { NODES } else { 0 };
-        for (more, call) in [
-            (
-                0,
-                Box::new(move || each_call(words, &[2, 3, 0], 0)) as Box<dyn FnOnce() + Send>,
-            ),
-            (1 << 20, Box::new(move || each_call(words, &rule, deepest))),
-        ] {
+        for (more, rule, refusal) in [(0, vec![2, 3, 0], 0), (1 << 20, deep.clone(), deepest)] {
+            let calls = move || {
+                each_call(words, &rule, refusal);
+                a_stop(words, &rule, refusal);
+            };
             let thread = std::thread::Builder::new().stack_size((kib << 10) + more + OWN);
-            assert!(thread.spawn(call).expect("a thread").join().is_ok());
+            assert!(thread.spawn(calls).expect("a thread").join().is_ok());
         }
     }
 }
