@@ -37,7 +37,7 @@ use Rattle.running.proofs.Checks.{tell-checked, Telling, early, staged, telling
 use Rattle.stopping.specs.declared.Kind.{Kind}
 use Rattle.stopping.specs.declared.Stopped.the-variants.{Applying, Refused, Completed}
 use Rattle.stopping.specs.Stopped.{kind, stopBy, stopped, stoppedNumbers}
-use Rattle.stopping.specs.Claims.{LacksFirst, no-steps, no-node, no-frame, StopsAt}
+use Rattle.stopping.specs.Claims.{Comes, LacksFirst, no-steps, no-node, no-frame, StopsAt}
 use Rattle.stopping.proofs.Stopping.{stops-at}
 use Rattle.stopping.proofs.Forward.{told-forward, uses-from}
 
@@ -99,20 +99,24 @@ unfolding tellApplies afterEnded applyEnded running.stopped
 halts-told i n ns limit w u s o v k q h = rw (q, halted-ends u s h)
 
 module _ (w s o l : List ℕ) where
-  stops-told : {e : Refusal} {i j : ℕ} {c : Kind} → StopsAt w s o l e i j c → stopped w s o l .answer ≡ Applying e i j c
+  -- a run that comes to want a use, which lacks something, stops there
+  pub lacks-told : {p : Packet} {t : Term} {args : List Tree} → Checked w s o l p t args → {i j : ℕ} {y : State} → Comes w s p t i j y → {e : Refusal}
+      → LacksFirst (frames s) (p .limit) j y e → stopped w s o l .answer ≡ Applying e i j (kind (wanted y))
   unfolding stopped stopBy
-  stops-told {e} {i} {j} x =
-      let c = x .comes in
-      let a = told-forward (x .checked) (c .rule-laid) (c .arguments-read) (c .reached) i (omega (arith, c .place)) in
+  lacks-told {p} checked {i} {j} {y} c {e} lacks =
+      let a = told-forward checked (c .rule-laid) (c .arguments-read) (c .reached) i (omega (arith, c .place)) in
       let b = begin (c .table .words) (c .table .used) (c .function) (c .argument) in
-      let h = led-halts b (c .led) (lacks-here (steps (c .k)) (c .steps-are) (x .lacks)) in
-      let d : Counted 0 (c .taken) (more (x .state)) = subst (Counted 0 (c .taken)) (c .led) (uses-steps (frames s) (c .taken) b) in
-      let m : steps (c .k) + steps (x .state .uses) ≡ j = omega (arith, c .steps-are) in
-      let q : tell w s o l .answer ≡ record { ran = ran.Refused e; stop = At i j (wanted (x .state)) } =
+      let h = led-halts b (c .led) (lacks-here (steps (c .k)) (c .steps-are) lacks) in
+      let d : Counted 0 (c .taken) (more y) = subst (Counted 0 (c .taken)) (c .led) (uses-steps (frames s) (c .taken) b) in
+      let m : steps (c .k) + steps (y .uses) ≡ j = omega (arith, c .steps-are) in
+      let q : tell w s o l .answer ≡ record { ran = ran.Refused e; stop = At i j (wanted y) } =
       ap (λ (y : Outcome Told). y .answer) (a .2)
-      ∙ halts-told i (c .argument) (c .left) (x .sent .limit) (c .table .words) (c .table .used) (a .0) o (c .function) (c .k) (rw (a .1) (h .1)) (h .2)
+      ∙ halts-told i (c .argument) (c .left) (p .limit) (c .table .words) (c .table .used) (a .0) o (c .function) (c .k) (rw (a .1) (h .1)) (h .2)
       ∙ rw m in
-      rw (q, x .rule)
+      rw q
+
+  stops-told : {e : Refusal} {i j : ℕ} {c : Kind} → StopsAt w s o l e i j c → stopped w s o l .answer ≡ Applying e i j c
+  stops-told x = rw (x .rule) (lacks-told (x .checked) (x .comes) (x .lacks))
 
   -- "for a stop while applying, gives Run's number, the argument's place (1 to 8), the steps taken in the whole run and which of the five rules was wanted.
   -- That rule is shown to be the next use by the definitions, and the thing named to be the first that it lacked.": and so exactly then.
