@@ -209,7 +209,7 @@ always {f} {N} by-drop = from-first f N 0 refl (none-after f N)
 always {f} {N} (by-spread {a = a} {b = b} {c = c} x y z) = from-first f N (steps a + steps b + steps c) (omega arith) (spread-after x y (always x) (always y) (always z))
 always {f} {N} (by-triage {a = a} {b = b} x y) = from-first f N (steps a + steps b) (omega arith) (triage-after x (always x) (always y))
 
--- As long as an application is not completed a use comes next, after each number of steps: with `next-unique` exactly one.
+-- In an application that ends a use comes next after each number of steps below its own: with `next-unique` exactly one.
 pub next-always : {f N v : Tree} {a : Uses} → Apply f N v a → (m : ℕ) → m < steps a → (k : Uses) × (r : Kind) × Next f N k r × (steps k ≡ m)
 unfolding count
 next-always x m h = let i = always x m h in (i .k, i .r, i .next, i .taken)
