@@ -1,13 +1,11 @@
 -- After so many uses an application has one next use at most, and so has a run. Assumes nothing.
-use Prim.Native.Nat.{ℕ, zero, suc, _+_, _-_, _<_}
+use Prim.Native.Nat.{ℕ, zero, suc, _+_, _-_, _≤_, _<_}
 use mathlib.Core.Path.{_≡_, refl, sym, ap, _∙_}
-use mathlib.Core.Bool.{Bool, true, false}
 use mathlib.Core.List.{List, _∷_, _++_}
+use mathlib.Core.Logic.{_⊎_, inl, inr}
 use native.Mathlib.Omega.{arith}
 use lib.ListN.{length}
-use lib.Dec.{ltb}
-use borrow.Author.Tests.{ltb-true, ltb-false}
-use Rattle.calculus.specs.Tree.{Tree, stem, fork}
+use Rattle.calculus.specs.Tree.{Tree, leaf, stem, fork}
 use Rattle.calculus.specs.declared.Uses.{Uses}
 use Rattle.calculus.specs.Uses.{noUses, oneSpread, oneTriage, _⊕_, steps}
 use Rattle.calculus.specs.Rules.{Apply, by-leaf, by-stem, by-drop, by-spread, by-triage, ApplyAll, at-end, and-next}
@@ -138,17 +136,10 @@ record After (f N : Tree) (m : ℕ) : Type 0 where
   next : Next f N k r
   taken : count k ≡ m
 
--- a number of steps, and how many of them come after a first part
-data Part (a m : ℕ) : Type 0 where
-  before : m < a → Part a m
-  beyond : (j : ℕ) → m ≡ a + j → Part a m
-
-part : (a m : ℕ) → Part a m
-part a m = go (ltb m a) refl
-  where
-    go : (b : Bool) → ltb m a ≡ b → Part a m
-    go true e = before (ltb-true m a e)
-    go false e = let h = ltb-false m a e in beyond (m - a) (omega arith)
+-- After m steps a use comes next, or the application is completed.
+data Going (f N : Tree) (m : ℕ) : Type 0 where
+  wants : After f N m → Going f N m
+  ended : {v : Tree} {a : Uses} → Apply f N v a → count a ≤ m → Going f N m
 
 one-spread : count oneSpread ≡ 1
 unfolding count
@@ -158,61 +149,73 @@ one-triage : count oneTriage ≡ 1
 unfolding count
 one-triage = refl
 
--- a use comes next after each number of steps below a
-abbrev Always : Tree → Tree → ℕ → Type 0
-Always f N a = (m : ℕ) → m < a → After f N m
+-- what is known of fewer steps
+abbrev Below : ℕ → Type 0
+Below m = (f N : Tree) (j : ℕ) → j ≤ m → Going f N j
 
-spread-after : {p y N v w : Tree} {a b : Uses} {c : ℕ} → Apply y N v a → Apply p N w b → Always y N (count a) → Always p N (count b) → Always v w c
-    → (m : ℕ) → m < count a + count b + c → After (fork (stem p) y) N (suc m)
-spread-after {p} {y} {N} {v} {w} {a} {b} {c} x z f g h m l = go (part (count a) m)
+spread-going : (p y N : Tree) (m : ℕ) → Below m → Going (fork (stem p) y) N (suc m)
+spread-going p y N m rec = first (rec y N m (omega arith))
   where
-    second : (j : ℕ) → m ≡ count a + j → Part (count b) j → After (fork (stem p) y) N (suc m)
-    second j e (before q) =
-        let i = g j q in
-        record { k = oneSpread ⊕ a ⊕ i .k; r = i .r; next = spread-second x (i .next); taken = rw (plus (oneSpread ⊕ a) (i .k), plus oneSpread a, one-spread) (omega (arith, i .taken)) }
-    second j e (beyond d q) =
-        let i = h d (omega arith) in
-        record {
+    third : {v w : Tree} {a b : Uses} → Apply y N v a → Apply p N w b → (j : ℕ) → count a + count b + j ≡ m → Going v w j → Going (fork (stem p) y) N (suc m)
+    third {a = a} {b = b} x z j e (wants i) =
+        wants (record {
           k = oneSpread ⊕ a ⊕ b ⊕ i .k;
           r = i .r;
           next = spread-third x z (i .next);
           taken = rw (plus (oneSpread ⊕ a ⊕ b) (i .k), plus (oneSpread ⊕ a) b, plus oneSpread a, one-spread) (omega (arith, i .taken));
-        }
+        })
+    third {a = a} {b = b} x z j e (ended {a = c} u q) =
+        ended (by-spread x z u) (rw (plus (oneSpread ⊕ a ⊕ b) c, plus (oneSpread ⊕ a) b, plus oneSpread a, one-spread) (omega arith))
 
-    go : Part (count a) m → After (fork (stem p) y) N (suc m)
-    go (before q) = let i = f m q in record { k = oneSpread ⊕ i .k; r = i .r; next = spread-first (i .next); taken = rw (plus oneSpread (i .k), one-spread) (omega (arith, i .taken)) }
-    go (beyond j e) = second j e (part (count b) j)
+    second : {v : Tree} {a : Uses} → Apply y N v a → (j : ℕ) → count a + j ≡ m → Going p N j → Going (fork (stem p) y) N (suc m)
+    second {a = a} x j e (wants i) =
+        wants (record { k = oneSpread ⊕ a ⊕ i .k; r = i .r; next = spread-second x (i .next); taken = rw (plus (oneSpread ⊕ a) (i .k), plus oneSpread a, one-spread) (omega (arith, i .taken)) })
+    second {v} {a} x j e (ended {v = w} {a = b} z q) = third x z (j - count b) (omega arith) (rec v w (j - count b) (omega arith))
 
-triage-after : {p q y N v : Tree} {a : Uses} {b : ℕ} → Apply N p v a → Always N p (count a) → Always v q b → (m : ℕ) → m < count a + b → After (fork (fork p q) y) N (suc m)
-triage-after {p} {q} {y} {N} {v} {a} {b} x f g m l = go (part (count a) m)
+    first : Going y N m → Going (fork (stem p) y) N (suc m)
+    first (wants i) = wants (record { k = oneSpread ⊕ i .k; r = i .r; next = spread-first (i .next); taken = rw (plus oneSpread (i .k), one-spread) (omega (arith, i .taken)) })
+    first (ended {a = a} x q) = second x (m - count a) (omega arith) (rec p N (m - count a) (omega arith))
+
+triage-going : (p q y N : Tree) (m : ℕ) → Below m → Going (fork (fork p q) y) N (suc m)
+triage-going p q y N m rec = first (rec N p m (omega arith))
   where
-    go : Part (count a) m → After (fork (fork p q) y) N (suc m)
-    go (before d) = let i = f m d in record { k = oneTriage ⊕ i .k; r = i .r; next = triage-first (i .next); taken = rw (plus oneTriage (i .k), one-triage) (omega (arith, i .taken)) }
-    go (beyond j e) =
-        let i = g j (omega arith) in
-        record { k = oneTriage ⊕ a ⊕ i .k; r = i .r; next = triage-second x (i .next); taken = rw (plus (oneTriage ⊕ a) (i .k), plus oneTriage a, one-triage) (omega (arith, i .taken)) }
+    second : {v : Tree} {a : Uses} → Apply N p v a → (j : ℕ) → count a + j ≡ m → Going v q j → Going (fork (fork p q) y) N (suc m)
+    second {a = a} x j e (wants i) =
+        wants (record { k = oneTriage ⊕ a ⊕ i .k; r = i .r; next = triage-second x (i .next); taken = rw (plus (oneTriage ⊕ a) (i .k), plus oneTriage a, one-triage) (omega (arith, i .taken)) })
+    second {a = a} x j e (ended {a = b} z l) = ended (by-triage x z) (rw (plus (oneTriage ⊕ a) b, plus oneTriage a, one-triage) (omega arith))
+
+    first : Going N p m → Going (fork (fork p q) y) N (suc m)
+    first (wants i) = wants (record { k = oneTriage ⊕ i .k; r = i .r; next = triage-first (i .next); taken = rw (plus oneTriage (i .k), one-triage) (omega (arith, i .taken)) })
+    first (ended {v = v} {a = a} x l) = second x (m - count a) (omega arith) (rec v q (m - count a) (omega arith))
 
 -- the first use, and those after it
-from-first : (f N : Tree) (a : ℕ) {b : ℕ} → b ≡ suc a → ((m : ℕ) → m < a → After f N (suc m)) → Always f N b
+no-steps : Below 0
 unfolding count
-from-first f N a e g zero h = record { k = noUses; r = ruleOf f; next = at-first; taken = refl }
-from-first f N a e g (suc m) h = g m (omega arith)
+no-steps f N zero h = wants (record { k = noUses; r = ruleOf f; next = at-first; taken = refl })
+no-steps f N (suc m) h = absurd (omega arith)
 
-none-after : (f N : Tree) (m : ℕ) → m < 0 → After f N (suc m)
-none-after f N m h = absurd (omega arith)
-
-always : {f N v : Tree} {a : Uses} → Apply f N v a → Always f N (count a)
+one-step-more : (n : ℕ) → Below n → Below (suc n)
 unfolding count
-always {f} {N} by-leaf = from-first f N 0 refl (none-after f N)
-always {f} {N} by-stem = from-first f N 0 refl (none-after f N)
-always {f} {N} by-drop = from-first f N 0 refl (none-after f N)
-always {f} {N} (by-spread {a = a} {b = b} {c = c} x y z) = from-first f N (steps a + steps b + steps c) (omega arith) (spread-after x y (always x) (always y) (always z))
-always {f} {N} (by-triage {a = a} {b = b} x y) = from-first f N (steps a + steps b) (omega arith) (triage-after x (always x) (always y))
+one-step-more n rec f N zero h = no-steps f N zero (omega arith)
+one-step-more n rec leaf N (suc m) h = ended by-leaf (omega arith)
+one-step-more n rec (stem p) N (suc m) h = ended by-stem (omega arith)
+one-step-more n rec (fork leaf y) N (suc m) h = ended by-drop (omega arith)
+one-step-more n rec (fork (stem p) y) N (suc m) h = spread-going p y N m (λ f M j l. rec f M j (omega arith))
+one-step-more n rec (fork (fork p q) y) N (suc m) h = triage-going p q y N m (λ f M j l. rec f M j (omega arith))
 
--- In an application that ends a use comes next after each number of steps below its own: with `next-unique` exactly one.
-pub next-always : {f N v : Tree} {a : Uses} → Apply f N v a → (m : ℕ) → m < steps a → (k : Uses) × (r : Kind) × Next f N k r × (steps k ≡ m)
+going : (n : ℕ) → Below n
+going zero = no-steps
+going (suc n) = one-step-more n (going n)
+
+-- After each number of steps a use comes next, or the application is completed in that many at most; with `next-unique` and `next-less` there is exactly one use
+-- as long as it is not.
+pub next-always : (f N : Tree) (m : ℕ) → ((k : Uses) × (r : Kind) × Next f N k r × (steps k ≡ m)) ⊎ ((v : Tree) × (a : Uses) × Apply f N v a × (steps a ≤ m))
 unfolding count
-next-always x m h = let i = always x m h in (i .k, i .r, i .next, i .taken)
+next-always f N m = go (going m f N m (omega arith))
+  where
+    go : Going f N m → ((k : Uses) × (r : Kind) × Next f N k r × (steps k ≡ m)) ⊎ ((v : Tree) × (a : Uses) × Apply f N v a × (steps a ≤ m))
+    go (wants i) = inl (i .k, i .r, i .next, i .taken)
+    go (ended {v = v} {a = a} x h) = inr (v, a, x, h)
 
 -- The same for the trees that a program is applied to in order: the place is the same, too.
 all-unique : {f : Tree} {a b : List Tree} {N M g h : Tree} (us vs : List Tree) {k j m n : Uses} {r c : Kind} → ApplyAll f a g k → ApplyAll f b h j → Next g N m r → Next h M n c
