@@ -155,7 +155,7 @@ module _ {all : ℕ} {s : State} (g : Good all s) where
       (extends-refl (s .table)))
       (λ b. halts Frames g)
 
-  in-use : {i : ℕ} → i < s .table .used → Has (s .table) i (treeAt (s .table .words) i)
+  pub in-use : {i : ℕ} → i < s .table .used → Has (s .table) i (treeAt (s .table .words) i)
   in-use h = record { inside = h; tree = refl }
 
   use-later : (k : Uses) (r : Rule) → RuleIn (s .table .used) r → Later all (s .table) (useRule all s k r)

@@ -14,11 +14,11 @@ use Rattle.calculus.specs.Uses.{counts, noUses, oneDrop, oneSpread, _⊕
 use Rattle.calculus.specs.Rules.{Apply, by-leaf, by-stem, by-drop, by-spread, Eval, of-tree, of-app, ApplyAll, at-end, and-next}
 use Rattle.calculus.specs.Term.{Term, abs, ClosedUnder, parameters, bodyUnder}
 use Rattle.calculus.specs.Bytes.{IsRule, rule}
-use Rattle.calculus.specs.Abstraction.{Combination, leaf, app, var, bracket, translate, grown, treeOf, ruleTree, leaves, nearest, width}
+use Rattle.calculus.specs.Abstraction.{Combination, leaf, app, var, Within, bracket, translate, grown, treeOf, ruleTree, leaves, nearest, width}
 use Rattle.calculus.specs.Runs.{fill, body, Direct, Translated, L, X, difference}
 use Rattle.calculus.proofs.Counts.{same-uses, uses-none}
 use Rattle.calculus.proofs.Unique.{eval-unique, applyAll-unique}
-use Rattle.calculus.proofs.Size.{Within, translate-within}
+use Rattle.calculus.proofs.Size.{translate-within}
 use Rattle.calculus.proofs.Rule.{rule-exact}
 
 -- The tree of a term's abstraction, once the other variables' trees are put in.

@@ -1,12 +1,12 @@
 -- What bracket abstraction does to a term's size, and that a translated rule is the term of a tree. Assumes nothing.
-use Prim.Native.Nat.{ℕ, zero, suc, _+_, _*_, _≤_, _<_}
+use Prim.Native.Nat.{ℕ, zero, suc, _+_, _*_, _≤_}
 use mathlib.Core.Path.{_≡_, refl, sym, ap, ap₂, _∙_}
 use mathlib.Core.List.{List}
 use native.Mathlib.Omega.{arith}
 use Rattle.calculus.specs.Tree.{Tree, stem, fork, size}
 use Rattle.calculus.specs.Term.{Term, abs, ClosedUnder}
 use Rattle.calculus.specs.Bytes.{IsRule}
-use Rattle.calculus.specs.Abstraction.{Combination, leaf, app, var, bracket, translate, term, grown, treeOf, ruleTree, nearest, width}
+use Rattle.calculus.specs.Abstraction.{Combination, leaf, app, var, Within, bracket, translate, term, grown, treeOf, ruleTree, nearest, width}
 
 -- A term has a leaf or a variable.
 pub width-pos : (c : Combination) → 1 ≤ width c
@@ -22,12 +22,6 @@ bracket-width leaf = refl
 bracket-width (app u v) = omega (arith, bracket-width u, bracket-width v)
 bracket-width (var zero) = refl
 bracket-width (var (suc i)) = refl
-
--- Every variable's parameter is among d around the term.
-abbrev pub Within : ℕ → Combination → Type 0
-Within d leaf = Unit {0}
-Within d (app u v) = Within d u × Within d v
-Within d (var i) = i < d
 
 bracket-within : (c : Combination) (d : ℕ) → Within (suc d) c → Within d (bracket c)
 unfolding bracket

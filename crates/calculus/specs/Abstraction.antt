@@ -1,5 +1,5 @@
 -- Terms without abstraction, bracket abstraction, and the tree of a translated rule. Assumes nothing: these are definitions.
-use Prim.Native.Nat.{ℕ, zero, suc, _+_}
+use Prim.Native.Nat.{ℕ, zero, suc, _+_, _<_}
 use Rattle.calculus.specs.Tree.{Tree, stem, fork}
 use Rattle.calculus.specs.Term.{Term}
 
@@ -8,6 +8,12 @@ pub data Combination : Type 0 where
   leaf : Combination
   app : Combination → Combination → Combination
   var : ℕ → Combination
+
+-- every variable's parameter is among d around the term; a closed term has none, so that d is 0
+abbrev pub Within : ℕ → Combination → Type 0
+Within d leaf = Unit {0}
+Within d (app u v) = Within d u × Within d v
+Within d (var i) = i < d
 
 -- "K = ΔΔ and I = Δ(ΔΔ)(ΔΔ)" (Translation)
 abbrev pub K : Combination

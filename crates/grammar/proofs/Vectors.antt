@@ -4,7 +4,7 @@ use mathlib.Core.List.{[], _∷_, map}
 use mathlib.Core.Option.{none, some}
 use Rattle.calculus.specs.Abstraction.{Combination, translate, leaves}
 use Rattle.calculus.specs.Abstraction as calculus
-use Rattle.calculus.specs.Equations.{Equal, same, joined, of-drop, of-spread}
+use Rattle.calculus.specs.Equations.{of-drop, of-spread, Equal, same, joined, equated}
 use Rattle.grammar.specs.Expression.{Expression, leaf, var, app, abs, not, and, or, implies}
 use Rattle.grammar.specs.Meaning.{termOf, K, I, stemOfStem, andTree, orTree, impliesTree, notTree}
 use Rattle.grammar.specs.Words.{token, tokens, flush, before, isSign, separate, lex}
@@ -19,32 +19,32 @@ abbrev no : Expression
 no = app yes (app (app leaf yes) yes)
 
 identity : (u : Combination) → Equal (calculus.app calculus.I u) u
-identity u = joined of-spread of-drop
+identity u = joined (equated of-spread) (equated of-drop)
 
 -- what K and KI give for two arguments
 first : (u v : Combination) → Equal (calculus.app (calculus.app calculus.K u) v) u
-first u v = of-drop
+first u v = equated of-drop
 
 second : (u v : Combination) → Equal (calculus.app (calculus.app (calculus.app calculus.K calculus.I) u) v) v
-second u v = joined (Equal.inside of-drop same) (identity v)
+second u v = joined (Equal.inside (equated of-drop) same) (identity v)
 
 module _ (a b : Expression) where
   -- each operator on its operands, by the equations
   of-and : Equal (translate (termOf (and a b))) (calculus.app (calculus.app (translate (termOf a)) (translate (termOf b))) (translate (termOf no)))
   unfolding termOf translate andTree stemOfStem K I
-  of-and = joined of-spread (Equal.inside same of-drop)
+  of-and = joined (equated of-spread) (Equal.inside same (equated of-drop))
 
   of-or : Equal (translate (termOf (or a b))) (calculus.app (calculus.app (translate (termOf a)) (translate (termOf yes))) (translate (termOf b)))
   unfolding termOf translate orTree impliesTree stemOfStem K I
-  of-or = Equal.inside (joined of-spread (Equal.inside (identity _) of-drop)) same
+  of-or = Equal.inside (joined (equated of-spread) (Equal.inside (identity _) (equated of-drop))) same
 
   of-implies : Equal (translate (termOf (implies a b))) (calculus.app (calculus.app (translate (termOf a)) (translate (termOf b))) (translate (termOf yes)))
   unfolding termOf translate impliesTree stemOfStem K I
-  of-implies = joined of-spread (Equal.inside same of-drop)
+  of-implies = joined (equated of-spread) (Equal.inside same (equated of-drop))
 
   of-not : Equal (translate (termOf (not a))) (calculus.app (calculus.app (translate (termOf a)) (translate (termOf no))) (translate (termOf yes)))
   unfolding termOf translate notTree andTree impliesTree stemOfStem K I
-  of-not = joined of-spread (Equal.inside (joined of-spread (Equal.inside (identity _) of-drop)) of-drop)
+  of-not = joined (equated of-spread) (Equal.inside (joined (equated of-spread) (Equal.inside (identity _) (equated of-drop))) (equated of-drop))
 
 -- "Each operator stands for applying its tree to its operands, left first.": on a true and on a false left operand, and on a right one e
 module _ (e : Expression) where

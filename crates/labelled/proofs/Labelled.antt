@@ -8,7 +8,7 @@ use Rattle.calculus.specs.declared.Uses.{Uses}
 use Rattle.calculus.specs.Uses.{oneStem, oneDrop, oneSpread, _⊕_, steps, InSteps}
 use Rattle.calculus.specs.Rules.{Apply, by-stem, by-drop, by-spread, ApplyAll, and-next}
 use Rattle.calculus.specs.Abstraction.{Combination, app, term}
-use Rattle.calculus.specs.Equations.{Equal, same, joined, inside, of-drop, of-spread}
+use Rattle.calculus.specs.Equations.{of-drop, of-spread, Equal, same, joined, inside, equated}
 use Rattle.labelled.specs.Label.{labelled}
 use Rattle.calculus.proofs.Counts.{same-uses}
 use Rattle.labelled.specs.Claims.{labelUses, OfRule, SixMore}
@@ -16,7 +16,7 @@ use Rattle.labelled.specs.Claims.{labelUses, OfRule, SixMore}
 -- "By the equations, this on any argument equals f on it." (Operations, Label) The argument is any term, whether or not it has a tree.
 pub labelled-equal : (f t : Tree) (z : Combination) → Equal (app (term (labelled f t)) z) (app (term f) z)
 unfolding term
-labelled-equal f t z = joined of-spread (joined (inside (joined of-spread (inside of-drop same)) same) of-drop)
+labelled-equal f t z = joined (equated of-spread) (joined (inside (joined (equated of-spread) (inside (equated of-drop) same)) same) (equated of-drop))
 
 in-labelled : (a : Uses) → oneSpread ⊕ (oneSpread ⊕ oneDrop ⊕ a ⊕ oneStem) ⊕ oneDrop ⊕ oneDrop ≡ a ⊕ labelUses
 in-labelled a = same-uses (omega arith) (omega arith) (omega arith) (omega arith) (omega arith)

@@ -13,10 +13,10 @@ use lib.Dec.{leb}
 use borrow.Author.Tests.{lt-ltb, le-ltb, le-leb, lt-leb, eq-eqb, ne-eqb}
 use Rattle.calculus.specs.Term.{Term, leaf, app, abs, var, nesting}
 use Rattle.calculus.specs.Bytes.{bytes, abstraction, application, argument, parse, whole, rule}
-use Rattle.calculus.specs.Abstraction.{Combination, bracket, translate, width}
+use Rattle.calculus.specs.Abstraction.{Combination, Within, bracket, translate, width}
 use Rattle.calculus.specs.Abstraction as combination
 use Rattle.calculus.proofs.Rule.{bytes-pos, parse-sound, rule-exact}
-use Rattle.calculus.proofs.Size.{Within, translate-within, rule-size}
+use Rattle.calculus.proofs.Size.{translate-within, rule-size}
 use Rattle.rule_size.specs.Weight.{leafWeight, weight, measured, sizeOf}
 use Rattle.rule_size.specs.declared.Measured.{Measured}
 

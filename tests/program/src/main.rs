@@ -305,6 +305,9 @@ fn frames_by_apply() -> Vec<Case> {
 /// 100,000 steps are less than 1,334 rounds and 2,668 of these; M's text has 102 digits and M on M takes 64
 /// steps, which make no more nodes. So the default limit comes first; and within 4,096 rounds, 307,200
 /// steps, the 8,192 nodes are used.
+///
+/// λx. ΔΔΔ(x x) on 212101021010: on paper ΔΔyz = y drops the part that never ends, and Δ is left; "an
+/// unneeded part that never ends keeps Apply busy" ([11]).
 fn endless() -> Vec<Case> {
     let on_itself = &["212101021010"];
     let with = |limit| limited(DOUBLE, on_itself, limit);
@@ -313,7 +316,9 @@ fn endless() -> Vec<Case> {
         "2121212101021200200212121210102120020020020021212121200212002002121212120020021212002\
                 00200200200200200";
     let arguments: &[&str] = &[text, "0"];
+    let unneeded = [2, 1, 1, 1, 0, 0, 0, 1, 3, 0, 3, 0];
     vec![
+        refused("a part that paper drops", packet(&unneeded, on_itself), 7),
         refused("one that never ends", packet(DOUBLE, on_itself), 7),
         refused("the same, 10,000 steps", with(10_000), 7),
         refused("the same, 1,000,000 steps", with(1_000_000), 7),
