@@ -14,7 +14,7 @@ use Rattle.calculus.specs.Uses.{counts, noUses, oneDrop, oneSpread, _⊕
 use Rattle.calculus.specs.Rules.{Apply, by-leaf, by-stem, by-drop, by-spread, Eval, of-tree, of-app, ApplyAll, at-end, and-next}
 use Rattle.calculus.specs.Term.{Term, abs, ClosedUnder, parameters, bodyUnder}
 use Rattle.calculus.specs.Bytes.{IsRule, rule}
-use Rattle.calculus.specs.Abstraction.{Combination, leaf, app, var, Within, bracket, translate, grown, treeOf, ruleTree, leaves, nearest, width}
+use Rattle.calculus.specs.Abstraction.{Combination, leaf, app, var, ClosedOver, bracket, translate, grown, treeOf, ruleTree, leaves, nearest, width}
 use Rattle.calculus.specs.Runs.{fill, body, Direct, Translated, L, X, difference}
 use Rattle.calculus.proofs.Counts.{same-uses, uses-none}
 use Rattle.calculus.proofs.Unique.{eval-unique, applyAll-unique}
@@ -44,7 +44,7 @@ cost-width (var zero) = refl
 cost-width (var (suc i)) = refl
 
 -- A term with one parameter has leaves and that parameter's variables alone.
-width-one : (c : Combination) → Within 1 c → width c ≡ leaves c + nearest c
+width-one : (c : Combination) → ClosedOver 1 c → width c ≡ leaves c + nearest c
 unfolding width leaves nearest
 width-one leaf h = refl
 width-one (app u v) h = omega (arith, width-one u (h .0), width-one v (h .1))
@@ -146,7 +146,7 @@ under-closed (suc n) d (Term.app f a) h e = absurd (omega arith)
 under-closed (suc n) d (Term.var i) h e = absurd (omega arith)
 
 -- "Then each variable of the i-th parameter becomes argument tree i": the body has no other variables, so that a tree is put in for each.
-pub body-within : {l : List ℕ} {t : Term} → IsRule l t → (n : ℕ) → n ≤ parameters t → Within n (body n t)
+pub body-within : {l : List ℕ} {t : Term} → IsRule l t → (n : ℕ) → n ≤ parameters t → ClosedOver n (body n t)
 unfolding body
 body-within {t = t} h n e = translate-within (bodyUnder n t) n (rw add-zero at (under-closed n 0 t (h .closed) e))
 

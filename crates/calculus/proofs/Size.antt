@@ -6,7 +6,7 @@ use native.Mathlib.Omega.{arith}
 use Rattle.calculus.specs.Tree.{Tree, stem, fork, size}
 use Rattle.calculus.specs.Term.{Term, abs, ClosedUnder}
 use Rattle.calculus.specs.Bytes.{IsRule}
-use Rattle.calculus.specs.Abstraction.{Combination, leaf, app, var, Within, bracket, translate, term, grown, treeOf, ruleTree, nearest, width}
+use Rattle.calculus.specs.Abstraction.{Combination, leaf, app, var, ClosedOver, bracket, translate, term, grown, treeOf, ruleTree, nearest, width}
 
 -- A term has a leaf or a variable.
 pub width-pos : (c : Combination) → 1 ≤ width c
@@ -23,7 +23,7 @@ bracket-width (app u v) = omega (arith, bracket-width u, bracket-width v)
 bracket-width (var zero) = refl
 bracket-width (var (suc i)) = refl
 
-bracket-within : (c : Combination) (d : ℕ) → Within (suc d) c → Within d (bracket c)
+bracket-within : (c : Combination) (d : ℕ) → ClosedOver (suc d) c → ClosedOver d (bracket c)
 unfolding bracket
 bracket-within leaf d h = ((tt, tt), tt)
 bracket-within (app u v) d h = ((tt, (tt, bracket-within v d (h .1))), bracket-within u d (h .0))
@@ -31,7 +31,7 @@ bracket-within (var zero) d h = ((tt, (tt, tt)), (tt, tt))
 bracket-within (var (suc i)) d h = ((tt, tt), omega arith)
 
 -- A translation has no further variables than its term has.
-pub translate-within : (t : Term) (d : ℕ) → ClosedUnder d t → Within d (translate t)
+pub translate-within : (t : Term) (d : ℕ) → ClosedUnder d t → ClosedOver d (translate t)
 unfolding translate
 translate-within Term.leaf d h = tt
 translate-within (Term.app f a) d h = (translate-within f d (h .0), translate-within a d (h .1))
@@ -46,7 +46,7 @@ treeOf-term (stem p) = ap stem (treeOf-term p)
 treeOf-term (fork p q) = ap₂ fork (treeOf-term p) (treeOf-term q)
 
 -- An abstraction of a term without other variables is the term of the tree that it makes.
-bracket-tree : (c : Combination) → Within 1 c → bracket c ≡ term (treeOf (bracket c))
+bracket-tree : (c : Combination) → ClosedOver 1 c → bracket c ≡ term (treeOf (bracket c))
 unfolding bracket term treeOf grown
 bracket-tree leaf h = refl
 bracket-tree (app u v) h = ap₂ (λ (x y : Combination). app (app leaf (app leaf y)) x) (bracket-tree u (h .0)) (bracket-tree v (h .1))

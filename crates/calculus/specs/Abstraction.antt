@@ -9,11 +9,11 @@ pub data Combination : Type 0 where
   app : Combination → Combination → Combination
   var : ℕ → Combination
 
--- every variable's parameter is among d around the term; a closed term has none, so that d is 0
-abbrev pub Within : ℕ → Combination → Type 0
-Within d leaf = Unit {0}
-Within d (app u v) = Within d u × Within d v
-Within d (var i) = i < d
+-- Every variable's parameter is among d around the term. A closed term is one with d = 0.
+abbrev pub ClosedOver : ℕ → Combination → Type 0
+ClosedOver d leaf = Unit {0}
+ClosedOver d (app u v) = ClosedOver d u × ClosedOver d v
+ClosedOver d (var i) = i < d
 
 -- "K = ΔΔ and I = Δ(ΔΔ)(ΔΔ)" (Translation)
 abbrev pub K : Combination

@@ -1,4 +1,4 @@
--- Each use of the machine is one equation on paper or none, and so are all of them together. Assumes nothing.
+-- Each use of the machine is one equation on paper or none, and all of them together are a way. Assumes nothing.
 use Prim.Native.Nat.{ℕ, zero, suc, _+_, _<_}
 use mathlib.Core.Path.{_≡_, refl, sym, ap, _∙_, subst}
 use mathlib.Core.List.{List, [], _∷_}
@@ -64,7 +64,7 @@ resumes s r t (SpreadSecond u ∷ fs) k v h = h
 resumes s r t (TriageFirst q ∷ fs) k v h = h
 
 module _ {all : ℕ} {s : State} (g : Good all s) where
-  -- an equation with the program's tree x
+  -- an equation whose left side is x applied to the argument, under the frames
   at-function : {e : Equation} {v : Combination} (x : Tree) → treeAt (s .table .words) (s .function) ≡ x
       → Reduces e (app (term x) (nodeTerm (s .table) (s .argument))) v → Reduces e (stateTerm s) (framesTerm (s .table) (s .frames) v)
   unfolding stateTerm nodeTerm

@@ -75,7 +75,7 @@ again k =
       uses = k;
     }
 
--- what goes on after a use more goes on, and after eight more
+-- what goes on after one use more goes on now, and so after two and eight more
 one : (k : ℕ) (s : State) → GoesOn (uses 3 (suc k) s) → GoesOn (uses 3 k s)
 unfolding uses after
 one zero s h = tt
@@ -103,7 +103,7 @@ unfolding nodes.hasWords nodes.find nodes.isNone nodes.newNode nodes.orNew nodes
     machine.forkRule machine.rule machine.resume machine.growBy machine.grow machine.hold machine.useRule machine.takeRule machine.turn machine.after machine.uses
 goes-on k = let s = begin words 9 8 4 in one k s (two (suc k) s (eight (suc (suc (suc k))) s (rounds k _)))
 
--- there, with three frames, Apply takes as many steps as it is allowed
+-- On the table above, with three frames, Apply takes as many steps as it is allowed.
 pub busy : (limit : ℕ) → limit ≤ 1000000 → apply words 9 (replicate 9 5) 8 4 limit .answer ≡ Refused Steps
 unfolding nodes.broken nodes.hasWords nodes.find nodes.isNone nodes.sound outcome.fits outcome.atEntry outcome.stopped
     machine-apply.settle machine-apply.applyNodes machine-apply.apply

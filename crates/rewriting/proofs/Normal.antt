@@ -5,7 +5,7 @@ use mathlib.Core.Logic.{_↔_}
 use mathlib.Core.List.{List}
 use native.Mathlib.Omega.{arith}
 use Rattle.calculus.specs.Tree.{Tree, stem, fork}
-use Rattle.calculus.specs.Abstraction.{Combination, leaf, app, var, Within, term, treeOf}
+use Rattle.calculus.specs.Abstraction.{Combination, leaf, app, var, ClosedOver, term, treeOf}
 use Rattle.calculus.specs.Equations.{Equation, the-drop, the-spread, the-triage, of-drop, of-spread, of-triage, Equal}
 use Rattle.calculus.proofs.Size.{treeOf-term}
 use Rattle.rewriting.specs.Ways.{Reduces, at-root, in-function, in-argument, Way, arrived, goes-by, Irreducible}
@@ -17,7 +17,7 @@ pub term-only : (a b : Tree) → term a ≡ term b → a ≡ b
 term-only a b e = sym (treeOf-term a) ∙ ap treeOf e ∙ treeOf-term b
 
 -- a tree's term has no variable
-pub term-closed : (t : Tree) → Within 0 (term t)
+pub term-closed : (t : Tree) → ClosedOver 0 (term t)
 unfolding term
 term-closed Tree.leaf = tt
 term-closed (stem p) = (tt, term-closed p)
@@ -49,7 +49,7 @@ grows f q d e h = let i = go f (rw (d, e) at h) in (i .0, ap₂ app d e ∙ i .1
     go (fork (fork w x) y) h = absurd (h the-triage _ (at-root of-triage))
 
 -- a closed term in which none can be used is a tree's
-irreducible-tree : (u : Combination) → Within 0 u → Irreducible u → (t : Tree) × (u ≡ term t)
+irreducible-tree : (u : Combination) → ClosedOver 0 u → Irreducible u → (t : Tree) × (u ≡ term t)
 unfolding term
 irreducible-tree leaf c h = (Tree.leaf, refl)
 irreducible-tree (app u v) c h =
@@ -59,28 +59,28 @@ irreducible-tree (app u v) c h =
 irreducible-tree (var i) c h = absurd (omega arith)
 
 -- "the irreducible combinations are exactly the programs" (001, section 7.3), which here are the trees.
-pub irreducible-exactly : (u : Combination) → Within 0 u → Irreducible u ↔ ((t : Tree) × (u ≡ term t))
+pub irreducible-exactly : (u : Combination) → ClosedOver 0 u → Irreducible u ↔ ((t : Tree) × (u ≡ term t))
 irreducible-exactly u c = (irreducible-tree u c, λ t. rw (t .1) (tree-irreducible (t .0)))
 
 -- a closed term stays closed
-reduces-within : {e : Equation} {u v : Combination} (d : ℕ) → Reduces e u v → Within d u → Within d v
-reduces-within d (at-root of-drop) c = c .0 .1
-reduces-within d (at-root of-spread) c = ((c .0 .1, c .1), (c .0 .0 .1 .1, c .1))
-reduces-within d (at-root of-triage) c = ((c .1, c .0 .0 .1 .0 .1), c .0 .0 .1 .1)
-reduces-within d (in-function r) c = (reduces-within d r (c .0), c .1)
-reduces-within d (in-argument r) c = (c .0, reduces-within d r (c .1))
+reduces-closed : {e : Equation} {u v : Combination} (d : ℕ) → Reduces e u v → ClosedOver d u → ClosedOver d v
+reduces-closed d (at-root of-drop) c = c .0 .1
+reduces-closed d (at-root of-spread) c = ((c .0 .1, c .1), (c .0 .0 .1 .1, c .1))
+reduces-closed d (at-root of-triage) c = ((c .1, c .0 .0 .1 .0 .1), c .0 .0 .1 .1)
+reduces-closed d (in-function r) c = (reduces-closed d r (c .0), c .1)
+reduces-closed d (in-argument r) c = (c .0, reduces-closed d r (c .1))
 
-pub way-within : {es : List Equation} {u v : Combination} (d : ℕ) → Way u es v → Within d u → Within d v
-way-within d arrived c = c
-way-within d (goes-by r p) c = way-within d p (reduces-within d r c)
+pub way-closed : {es : List Equation} {u v : Combination} (d : ℕ) → Way u es v → ClosedOver d u → ClosedOver d v
+way-closed d arrived c = c
+way-closed d (goes-by r p) c = way-closed d p (reduces-closed d r c)
 
 -- "two such ways that both end, from one closed term without abstractions, end in the same tree" ([11])
-pub only-result : {es fs : List Equation} {u v w : Combination} → Within 0 u → Way u es v → Irreducible v → Way u fs w → Irreducible w → SameTree v w
+pub only-result : {es fs : List Equation} {u v w : Combination} → ClosedOver 0 u → Way u es v → Irreducible v → Way u fs w → Irreducible w → SameTree v w
 only-result {v = v} c p h q k =
-    let t = irreducible-tree v (way-within 0 p c) h in
+    let t = irreducible-tree v (way-closed 0 p c) h in
     record { tree = t .0; first-ends = t .1; second-ends = sym (one-end p h q k) ∙ t .1 }
 
--- No use of the equations, in either direction, makes two trees equal: "stems are never equal to forks" (001, section 7.1).
+-- No use of the equations, in either direction, makes two different trees equal: "stems are never equal to forks" (001, section 7.1).
 pub equal-trees : (a b : Tree) → Equal (term a) (term b) → a ≡ b
 equal-trees a b e =
     let j = equal-meets e in

@@ -5,7 +5,7 @@ use Rattle.calculus.specs.Abstraction.{Combination, leaf, app, var}
 use Rattle.calculus.specs.Equations.{Equation, of-drop, of-spread, of-triage}
 use Rattle.rewriting.specs.Ways.{Reduces, at-root, in-function, in-argument}
 
--- equations used in separate parts of a term, at the same time
+-- equations used at several places of a term at the same time, one inside another too
 pub data Parallel : Combination → Combination → Type 0 where
   leaf-stays : Parallel leaf leaf
   var-stays : {i : ℕ} → Parallel (var i) (var i)

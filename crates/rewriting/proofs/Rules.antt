@@ -7,7 +7,7 @@ use Rattle.calculus.specs.Tree.{Tree}
 use Rattle.calculus.specs.declared.Uses.{Uses}
 use Rattle.calculus.specs.Uses.{noUses, oneDrop, oneSpread, oneTriage, _⊕_, steps}
 use Rattle.calculus.specs.Rules.{Apply, by-leaf, by-stem, by-drop, by-spread, by-triage, Closed, tree, Eval, of-tree, of-app, ApplyAll, at-end, and-next}
-use Rattle.calculus.specs.Abstraction.{Combination, app, Within, term}
+use Rattle.calculus.specs.Abstraction.{Combination, app, ClosedOver, term}
 use Rattle.calculus.specs.Equations.{Equation, the-drop, the-spread, the-triage, of-drop, of-spread, of-triage}
 use Rattle.calculus.proofs.Counts.{none-uses, uses-assoc}
 use Rattle.rewriting.specs.Ways.{Reduces, at-root, Way, arrived, useOf, usesOf, paperUses, applied, closedTerm}
@@ -32,7 +32,7 @@ unfolding usesOf
 uses-number [] = refl
 uses-number (e ∷ es) = omega (arith, one-step e, uses-number es)
 
--- Uses that are ways: a list of equations, none, one, one after another, and in the parts of a term.
+-- Uses are a way: by the equations that are listed, by none, by one, by a way and one after it, and by a way in a part of a term.
 pub way-by : {u v : Combination} (es : List Equation) (k : Uses) → Way u es v → usesOf es ≡ paperUses k → WayBy u v k
 way-by es k p e = record { equations = es; way = p; each = e; number = omega (arith, uses-number es, ap steps e) }
 
@@ -83,18 +83,18 @@ eval-way {r = r} of-tree = none-by refl (term r)
 eval-way (of-app a b c) = then-by (then-by (function-by (eval-way a)) (argument-by (eval-way b))) (apply-way c)
 
 -- the terms from which these lead are closed
-pub applied-closed : (u : Combination) (Ns : List Tree) → Within 0 u → Within 0 (applied u Ns)
+pub applied-closed : (u : Combination) (Ns : List Tree) → ClosedOver 0 u → ClosedOver 0 (applied u Ns)
 unfolding applied
 applied-closed u [] c = c
 applied-closed u (N ∷ Ns) c = applied-closed (app u (term N)) Ns (c, term-closed N)
 
-pub closedTerm-closed : (c : Closed) → Within 0 (closedTerm c)
+pub closedTerm-closed : (c : Closed) → ClosedOver 0 (closedTerm c)
 unfolding closedTerm
 closedTerm-closed (tree t) = term-closed t
 closedTerm-closed (Closed.app u v) = (closedTerm-closed u, closedTerm-closed v)
 
 -- A tree to which uses of the rules lead from a closed term is the only one in which ways from there can end.
-pub result-by : {u : Combination} (r : Tree) {k : Uses} → Within 0 u → WayBy u (term r) k → OnlyResult u r k
+pub result-by : {u : Combination} (r : Tree) {k : Uses} → ClosedOver 0 u → WayBy u (term r) k → OnlyResult u r k
 result-by r c p =
     let there = tree-irreducible r in
     record {

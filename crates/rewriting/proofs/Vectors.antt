@@ -1,4 +1,4 @@
--- Worked examples: a way on paper for document 01's rule, and lines of source 001 that do not hold by the three equations. Assumes nothing.
+-- Worked examples: ways on paper for document 01's rule, and equations named or misprinted in source 001 that do not hold. Assumes nothing.
 use Prim.Native.Nat.{ℕ}
 use mathlib.Core.Path.{_≡_, refl, ap}
 use mathlib.Core.List.{[], _∷_}
@@ -34,7 +34,7 @@ pub section-7-1 : Equal (app (app leaf leaf) leaf) (app leaf leaf) → ⊥
 unfolding term size
 section-7-1 e = let d = ap size (equal-trees (fork Tree.leaf Tree.leaf) (stem Tree.leaf) e) in omega (arith, d)
 
--- 001, section 7.3, has Δ(Δu)ΔΔ reduce to ΔΔ(uΔ)Δ, where the second equation gives ΔΔ(uΔ); with Δ for u the one has the tree 2010 and the other 10
+-- 001, section 7.3, has Δ(Δu)ΔΔ reduce to ΔΔ(uΔ)Δ, where the second equation gives ΔΔ(uΔ). With Δ for u the left one has the tree 2010 and the right one 10.
 pub section-7-3 : Equal (app (app (app leaf (app leaf leaf)) leaf) leaf) (app (app (app leaf leaf) (app leaf leaf)) leaf) → ⊥
 unfolding term size
 section-7-3 e =

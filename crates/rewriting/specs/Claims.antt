@@ -5,7 +5,7 @@ use mathlib.Core.List.{List}
 use lib.ListN.{length}
 use Rattle.calculus.specs.Tree.{Tree}
 use Rattle.calculus.specs.declared.Uses.{Uses}
-use Rattle.calculus.specs.Abstraction.{Combination, Within, term}
+use Rattle.calculus.specs.Abstraction.{Combination, ClosedOver, term}
 use Rattle.calculus.specs.Equations.{Equation}
 use Rattle.rewriting.specs.Ways.{Way, Irreducible, usesOf, paperUses}
 
@@ -24,7 +24,7 @@ pub record WayBy (u v : Combination) (k : Uses) : Type 0 where
 
 -- From the closed term u the uses k are a way to the tree r, and r is "the only one they can end in" ([11]).
 pub record OnlyResult (u : Combination) (r : Tree) (k : Uses) : Type 0 where
-  pub closed : Within 0 u
+  pub closed : ClosedOver 0 u
   pub way : WayBy u (term r) k
   pub ends : Irreducible (term r)
   -- every way that ends, ends there, and every other can still be led there

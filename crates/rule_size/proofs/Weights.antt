@@ -13,7 +13,7 @@ use lib.Dec.{leb}
 use borrow.Author.Tests.{lt-ltb, le-ltb, le-leb, lt-leb, eq-eqb, ne-eqb}
 use Rattle.calculus.specs.Term.{Term, leaf, app, abs, var, nesting}
 use Rattle.calculus.specs.Bytes.{bytes, abstraction, application, argument, parse, whole, rule}
-use Rattle.calculus.specs.Abstraction.{Combination, Within, bracket, translate, width}
+use Rattle.calculus.specs.Abstraction.{Combination, ClosedOver, bracket, translate, width}
 use Rattle.calculus.specs.Abstraction as combination
 use Rattle.calculus.proofs.Rule.{bytes-pos, parse-sound, rule-exact}
 use Rattle.calculus.proofs.Size.{translate-within, rule-size}
@@ -43,7 +43,7 @@ weight-bracket d (combination.var zero) = let e : suc d - 1 - 0 ≡ d = omega ar
 weight-bracket d (combination.var (suc i)) = let e : suc d - 1 - suc i ≡ d - 1 - i = omega arith in rw e (omega arith)
 
 -- under no abstraction, a term without variables counts its leaves
-pub weight-closed : (c : Combination) → Within 0 c → weight 0 c ≡ width c
+pub weight-closed : (c : Combination) → ClosedOver 0 c → weight 0 c ≡ width c
 unfolding weight leafWeight width
 weight-closed combination.leaf h = refl
 weight-closed (combination.app u v) h = omega (arith, weight-closed u (h .0), weight-closed v (h .1))
