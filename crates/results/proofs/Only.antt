@@ -1,6 +1,6 @@
 -- The tree that Apply gives, and the one whose text Run writes, is the only one in which ways on paper can end. Assumes nothing.
 use Prim.Native.Nat.{ℕ}
-use mathlib.Core.Path.{_≡_, sym}
+use mathlib.Core.Path.{_≡_}
 use mathlib.Core.List.{List}
 use Rattle.calculus.specs.declared.Uses.{Uses}
 use Rattle.calculus.specs.Runs.{Direct}
@@ -28,7 +28,6 @@ run-only w s o l m u n k e =
     let t = rule-tree (rule-exact (c .sent .rule) (c .term) .0 (c .is-rule)) in
     record {
       completes = c;
-      rule-is = sym t;
       result = rw t (result-by (c .tree) (applied-closed _ (c .args) (term-closed _)) (applyAll-way (c .translated)));
       direct = λ low high. let d = c .direct low high .1 in (d .uses, d .gives, result-by (c .tree) (closedTerm-closed _) (eval-way (d .gives)));
     }

@@ -6,7 +6,7 @@ use lib.ListN.{length}
 use Rattle.calculus.specs.declared.Uses.{Uses}
 use Rattle.calculus.specs.Rules.{Eval}
 use Rattle.calculus.specs.Term.{parameters}
-use Rattle.calculus.specs.Abstraction.{Combination, app, term, translate, ruleTree}
+use Rattle.calculus.specs.Abstraction.{Combination, app, term, translate}
 use Rattle.calculus.specs.Runs.{body, fill}
 use Rattle.calculus.specs.Equations.{the-drop, the-spread, the-triage}
 use Rattle.table.specs.Nodes.{treeAt}
@@ -49,7 +49,6 @@ ApplyResult w u s f n limit v k = OnlyResult (app (term (treeAt w f)) (term (tre
 -- runs of demand 3) evaluates.
 pub record RunResult (w s o l : List ℕ) (m u n : ℕ) (k : Uses) : Type 0 where
   pub completes : Completes w s o l m u n k
-  pub rule-is : term (ruleTree (completes .term)) ≡ translate (completes .term)
   pub result : OnlyResult (applied (translate (completes .term)) (completes .args)) (completes .tree) k
   pub direct : 1 ≤ length (completes .args) → length (completes .args) ≤ parameters (completes .term)
       → (j : Uses) × Eval (fill (reverse (completes .args)) (body (length (completes .args)) (completes .term))) (completes .tree) j

@@ -4,6 +4,7 @@ use mathlib.Core.List.{List, [], _∷_, _++_}
 use Rattle.calculus.specs.Abstraction.{Combination, app}
 use Rattle.calculus.specs.Equations.{Equation, of-drop, of-spread, of-triage, Equal, same, turned, joined, inside, equated}
 use Rattle.rewriting.specs.Ways.{Reduces, at-root, in-function, in-argument, Way, arrived, goes-by, Irreducible}
+use Rattle.rewriting.specs.Claims.{Reaches}
 use Rattle.rewriting.proofs.Parallel.{Parallel, leaf-stays, var-stays, both, drops, spreads, triages, one-parallel, Meets, mirrored, diamond}
 
 pub way-one : {e : Equation} {u v : Combination} → Reduces e u v → Way u (e ∷ []) v
@@ -20,11 +21,6 @@ way-function (goes-by r p) = goes-by (in-function r) (way-function p)
 pub way-argument : {es : List Equation} {u v t : Combination} → Way u es v → Way (app t u) es (app t v)
 way-argument arrived = arrived
 way-argument (goes-by r p) = goes-by (in-argument r) (way-argument p)
-
--- a way with whatever equations
-pub record Reaches (u v : Combination) : Type 0 where
-  pub equations : List Equation
-  pub way : Way u equations v
 
 reaches : {es : List Equation} {u v : Combination} → Way u es v → Reaches u v
 reaches {es} p = record { equations = es; way = p }

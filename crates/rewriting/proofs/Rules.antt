@@ -11,7 +11,7 @@ use Rattle.calculus.specs.Abstraction.{Combination, app, ClosedOver, term}
 use Rattle.calculus.specs.Equations.{Equation, the-drop, the-spread, the-triage, of-drop, of-spread, of-triage}
 use Rattle.calculus.proofs.Counts.{none-uses, uses-assoc}
 use Rattle.rewriting.specs.Ways.{Reduces, at-root, Way, arrived, useOf, usesOf, paperUses, applied, closedTerm}
-use Rattle.rewriting.specs.Claims.{WayBy, OnlyResult}
+use Rattle.rewriting.specs.Claims.{Reaches, WayBy, OnlyResult}
 use Rattle.rewriting.proofs.Confluence.{way-one, way-joined, way-function, way-argument, confluent, stays-there, one-end}
 use Rattle.rewriting.proofs.Normal.{term-closed, tree-irreducible}
 
@@ -32,7 +32,7 @@ unfolding usesOf
 uses-number [] = refl
 uses-number (e ∷ es) = omega (arith, one-step e, uses-number es)
 
--- Uses are a way: by the equations that are listed, by none, by one, by a way and one after it, and by a way in a part of a term.
+-- Uses are a way: by the equations that are listed, by none, by one, by a way and one after it, and by a way within a larger term.
 pub way-by : {u v : Combination} (es : List Equation) (k : Uses) → Way u es v → usesOf es ≡ paperUses k → WayBy u v k
 way-by es k p e = record { equations = es; way = p; each = e; number = omega (arith, uses-number es, ap steps e) }
 
@@ -50,11 +50,8 @@ pub then-by : {u v w : Combination} {a b : Uses} → WayBy u v a → WayBy v w b
 then-by {a = a} {b = b} p q =
     way-by (p .equations ++ q .equations) (a ⊕ b) (way-joined (p .way) (q .way)) (uses-append (p .equations) (q .equations) ∙ ap₂ _⊕_ (p .each) (q .each))
 
-pub function-by : {u v t : Combination} {a : Uses} → WayBy u v a → WayBy (app u t) (app v t) a
-function-by {a = a} p = way-by (p .equations) a (way-function (p .way)) (p .each)
-
-pub argument-by : {u v t : Combination} {a : Uses} → WayBy u v a → WayBy (app t u) (app t v) a
-argument-by {a = a} p = way-by (p .equations) a (way-argument (p .way)) (p .each)
+within-by : {u v s t : Combination} {a : Uses} → ((es : List Equation) → Way u es v → Way s es t) → WayBy u v a → WayBy s t a
+within-by {a = a} into p = way-by (p .equations) a (into (p .equations) (p .way)) (p .each)
 
 -- "Each use of drop, spread and triage is shown to be one equation on paper, and of leaf and stem none." ([11])
 pub apply-way : {f N r : Tree} {k : Uses} → Apply f N r k → WayBy (app (term f) (term N)) (term r) k
@@ -62,8 +59,8 @@ unfolding term useOf
 apply-way by-leaf = none-by refl _
 apply-way by-stem = none-by refl _
 apply-way by-drop = one-by (at-root of-drop)
-apply-way (by-spread a b c) = then-by (then-by (then-by (one-by (at-root of-spread)) (function-by (apply-way a))) (argument-by (apply-way b))) (apply-way c)
-apply-way (by-triage a b) = then-by (then-by (one-by (at-root of-triage)) (function-by (apply-way a))) (apply-way b)
+apply-way (by-spread a b c) = then-by (then-by (then-by (one-by (at-root of-spread)) (within-by (λ es. way-function) (apply-way a))) (within-by (λ es. way-argument) (apply-way b))) (apply-way c)
+apply-way (by-triage a b) = then-by (then-by (one-by (at-root of-triage)) (within-by (λ es. way-function) (apply-way a))) (apply-way b)
 
 -- the same of a program on several trees, and of a closed term that is evaluated
 way-applied : {es : List Equation} {u v : Combination} (Ns : List Tree) → Way u es v → Way (applied u Ns) es (applied v Ns)
@@ -74,13 +71,12 @@ way-applied (N ∷ Ns) p = way-applied Ns (way-function p)
 pub applyAll-way : {f r : Tree} {Ns : List Tree} {k : Uses} → ApplyAll f Ns r k → WayBy (applied (term f) Ns) (term r) k
 unfolding applied
 applyAll-way {f} at-end = none-by refl (term f)
-applyAll-way {Ns = N ∷ Ns} (and-next {a = a} d b) =
-    let p = apply-way d in then-by (way-by (p .equations) a (way-applied Ns (p .way)) (p .each)) (applyAll-way b)
+applyAll-way {Ns = N ∷ Ns} (and-next a b) = then-by (within-by (λ es. way-applied Ns) (apply-way a)) (applyAll-way b)
 
 pub eval-way : {c : Closed} {r : Tree} {k : Uses} → Eval c r k → WayBy (closedTerm c) (term r) k
 unfolding closedTerm
 eval-way {r = r} of-tree = none-by refl (term r)
-eval-way (of-app a b c) = then-by (then-by (function-by (eval-way a)) (argument-by (eval-way b))) (apply-way c)
+eval-way (of-app a b c) = then-by (then-by (within-by (λ es. way-function) (eval-way a)) (within-by (λ es. way-argument) (eval-way b))) (apply-way c)
 
 -- the terms from which these lead are closed
 pub applied-closed : (u : Combination) (Ns : List Tree) → ClosedOver 0 u → ClosedOver 0 (applied u Ns)
@@ -102,5 +98,5 @@ result-by r c p =
       way = p;
       ends = there;
       only = λ q h. one-end q h (p .way) there;
-      comes = λ {es} {v} q. let m = confluent q (p .way) in (m .left .equations, subst (Way v (m .left .equations)) (stays-there there (m .right .way)) (m .left .way));
+      comes = λ {es} {v} q. let m = confluent q (p .way) in subst (Reaches v) (stays-there there (m .right .way)) (m .left);
     }

@@ -15,6 +15,11 @@ pub record SameTree (v w : Combination) : Type 0 where
   pub first-ends : v ≡ term tree
   pub second-ends : w ≡ term tree
 
+-- there is a way from u to v
+pub record Reaches (u v : Combination) : Type 0 where
+  pub equations : List Equation
+  pub way : Way u equations v
+
 -- The uses k are a way from u to v: "Each use of drop, spread and triage is shown to be one equation on paper, and of leaf and stem none." ([11])
 pub record WayBy (u v : Combination) (k : Uses) : Type 0 where
   pub equations : List Equation
@@ -29,4 +34,4 @@ pub record OnlyResult (u : Combination) (r : Tree) (k : Uses) : Type 0 where
   pub ends : Irreducible (term r)
   -- every way that ends, ends there, and every other can still be led there
   pub only : {es : List Equation} {v : Combination} → Way u es v → Irreducible v → v ≡ term r
-  pub comes : {es : List Equation} {v : Combination} → Way u es v → (fs : List Equation) × Way v fs (term r)
+  pub comes : {es : List Equation} {v : Combination} → Way u es v → Reaches v (term r)
