@@ -16,7 +16,8 @@
  *   up to 131,072         up to 65,536    400 KiB
  * lazvorn_translate, lazvorn_run, lazvorn_stopped and lazvorn_label_packet go into a rule as deep
  * as it nests, and need up to 1 MiB more for the deepest, some 512 bytes for each application
- * within another. Only lazvorn_rule_text, which has no table, needs none of this.
+ * within another. lazvorn_rule_text, lazvorn_window and lazvorn_next_window, which have no table,
+ * need none of this.
  *
  * What a caller owes is what C itself asks: a pointer reaches as many elements as its length says,
  * and what the call writes (the table but for lazvorn_write, lazvorn_unlabel and lazvorn_same, the
@@ -30,9 +31,11 @@
  *   lazvorn_unlabel writes six: the first five of the ten, and the label's node;
  *   lazvorn_same writes two: refusal, and 1 if the trees are equal, else 0;
  *   lazvorn_rule_text writes two: refusal, and bytes written;
+ *   lazvorn_window and lazvorn_next_window write three: refusal, 1 or 0 whether there is a window,
+ *     and the packet number or the minutes, 0 where there is none;
  *   every other call writes the first five of the ten.
  * A refusal gives its number, used as at entry (0 for lazvorn_run and lazvorn_label_packet), and 0
- * for the others; lazvorn_stopped alone tells more of a refusal. Refusals 1 to 6, 11 and 12 leave
+ * for the others; lazvorn_stopped alone tells more of a refusal. Refusals 1 to 6 and 11 to 13 leave
  * all lent memory as found. Refusals 7 to 10 set the stack and the words of the nodes made in the
  * call to 0 and leave out as found. Success sets the stack to 0.
  *
@@ -40,6 +43,13 @@
  * First tag 1, a rule; then none to eight of tag 2, an argument's text; then at most one of tag 3,
  * the step limit, four bytes, high first, at most 1,000,000; then at most one of tag 4, a label's
  * text. Anything else, or more than 16,384 bytes, is a broken packet.
+ *
+ * A week is 84 numbers: seven days of four places of first, end and packet, so that place p (0 to
+ * 3) of day d (0 to 6) is the numbers 12 * d + 3 * p and the two after it. A window has the minutes
+ * of its day from first on, up to end and without end; first is below end, end is at most 1,440,
+ * and packet is a number from 1 to 28. The windows of a day ascend and do not overlap; the end of
+ * one may be the first of the next. An unused place is three zeros, after the used ones. Anything
+ * else, or another count of numbers, is a broken week.
  */
 #ifndef LAZVORN_H
 #define LAZVORN_H
@@ -87,6 +97,16 @@ enum {
 /* How many numbers lazvorn_stopped writes. */
 enum { LAZVORN_STOPPED = 4 };
 
+/* In the answers of lazvorn_window and lazvorn_next_window. */
+enum {
+    LAZVORN_FOUND = 1,         /* 1 if there is a window, else 0 */
+    LAZVORN_PACKET_NUMBER = 2, /* of lazvorn_window, the window's packet number */
+    LAZVORN_MINUTES = 2        /* of lazvorn_next_window, the minutes until it begins */
+};
+
+/* How many numbers lazvorn_window and lazvorn_next_window write, and how many a week has. */
+enum { LAZVORN_WINDOW = 3, LAZVORN_WEEK = 84 };
+
 /* The rule that was wanted. */
 enum {
     LAZVORN_WANTED_LEAF = 1,
@@ -109,7 +129,8 @@ enum {
     LAZVORN_NO_FRAMES = 9, /* every frame is held */
     LAZVORN_NO_OUT = 10,   /* the out bytes are full, or too few */
     LAZVORN_NOT_LABELLED = 11, /* a tree is not of the labelled form */
-    LAZVORN_RULE_TEXT = 12     /* a rule text has no reading, or is too long or too deep */
+    LAZVORN_RULE_TEXT = 12,    /* a rule text has no reading, or is too long or too deep */
+    LAZVORN_BAD_WEEK = 13      /* a week is broken, a day above 6 or a minute above 1,439 */
 };
 
 /* Reads a text into the table. Gives node and used. Refusals 1, 2, 4, 9, 8, in this order. */
@@ -265,6 +286,29 @@ void lazvorn_rule_text(
     uint8_t *out,        /* the out bytes; 4,096 are enough for any rule, and those past it stay */
     size_t out_len,      /* how many bytes */
     size_t answer[2]);   /* refusal, and bytes written */
+
+/*
+ * Gives the packet number of the window that holds a minute, or none where no window does. Refusal
+ * 13, whichever day of the week is broken.
+ */
+void lazvorn_window(
+    const uint32_t *week, /* the week's numbers; they are read only */
+    size_t week_len,      /* how many numbers: 84, or the week is broken */
+    size_t day,           /* the day, 0 to 6 */
+    size_t minute,        /* the minute of the day, 0 to 1,439 */
+    size_t answer[3]);    /* refusal, 1 or 0, and the packet number */
+
+/*
+ * Gives the minutes until the next window begins: 0 where one begins at this minute. After the
+ * week's end come the windows of its days again, up to those of this day that began earlier. A week
+ * without windows has none. Refusal 13.
+ */
+void lazvorn_next_window(
+    const uint32_t *week, /* the week's numbers; they are read only */
+    size_t week_len,      /* how many numbers: 84, or the week is broken */
+    size_t day,           /* the day, 0 to 6 */
+    size_t minute,        /* the minute of the day, 0 to 1,439 */
+    size_t answer[3]);    /* refusal, 1 or 0, and the minutes, at most 10,079 */
 
 #ifdef __cplusplus
 }

@@ -4,7 +4,7 @@
 // The definitions are in specs/.
 ghost use mathlib.Core.Path.{_≡_};
 ghost use mathlib.Core.List.{[]};
-ghost use Rattle.table.specs.Refusal.{madeNumbers};
+ghost use Rattle.table.specs.Refusal.{madeNumbers, givenNumbers};
 ghost use Rattle.table.specs.Outcome.{whole, wholeOut, answered};
 ghost use Rattle.table.specs.Same as comparing;
 ghost use Rattle.ternary.specs.Read as reading;
@@ -17,6 +17,8 @@ ghost use Rattle.labelled.specs.Unlabel as unlabelling;
 ghost use Rattle.running.specs.Run as running;
 ghost use Rattle.stopping.specs.Stopped as stopping;
 ghost use Rattle.grammar.specs.Outcome as grammar;
+ghost use Rattle.week.specs.Weeks.{windowAt, nextWindow};
+ghost use Rattle.week.specs.Lent.{lent};
 ghost use Rattle.ffi.specs.Boundary.{numbered, counted};
 
 // Reads a text into the table.
@@ -184,4 +186,29 @@ pub extern "C" fn lazvorn_same(
 {
     let compared = same::same(table, used, a, b);
     *answer = answers::compared(compared);
+}
+
+// Gives the packet of the window that holds a minute of a day of a week; the week is only read. The answer is three numbers: refusal, 1 if there is such a
+// window, and the packet's number.
+#[no_mangle]
+pub extern "C" fn lazvorn_window(week: &[u32], day: usize, minute: usize, answer: &mut [usize; 3])
+    ensures { λ _. ⌜ now (answer .exit) ≡ givenNumbers (lent windowAt (now (week .entry)) day minute) ⌝ }
+{
+    let packet = week_numbers::window_at(week, day, minute);
+    *answer = answers::given(packet);
+}
+
+// Gives the minutes until the next window of a week begins; the week is only read. The answer is three numbers: refusal, 1 if the week has a window, and the
+// minutes.
+#[no_mangle]
+pub extern "C" fn lazvorn_next_window(
+    week: &[u32],
+    day: usize,
+    minute: usize,
+    answer: &mut [usize; 3],
+)
+    ensures { λ _. ⌜ now (answer .exit) ≡ givenNumbers (lent nextWindow (now (week .entry)) day minute) ⌝ }
+{
+    let minutes = week_numbers::next_window(week, day, minute);
+    *answer = answers::given(minutes);
 }

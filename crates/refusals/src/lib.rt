@@ -20,5 +20,6 @@ pub fn number(refusal: Refusal) -> usize
         Refusal::Out => 10,
         Refusal::Label => 11,
         Refusal::RuleText => 12,
+        Refusal::Week => 13,
     }
 }

@@ -7,22 +7,23 @@ use mathlib.Core.List.{List, [], _∷_, map}
 use lib.ListN.{replicate}
 use Rattle.calculus.specs.Tree.{Tree, leaf, stem, fork}
 use Rattle.table.specs.Nodes.{Table, Placed, got, full, broken, hasWords, find, isNone, sound, newNode, orNew, make, andThen, lay}
-use Rattle.table.specs.Refusal.{number, refusedNumbers, madeNumbers, clears}
+use Rattle.table.specs.Refusal.{number, refusedNumbers, madeNumbers, givenNumbers, clears}
 use Rattle.table.specs.Same.{sameNumbers}
 use Rattle.table.specs.declared.Compared.the-variants as compared
+use Rattle.table.specs.declared.Given.the-variants as given
 use Rattle.table.specs.declared.Made.the-variants.{Refused}
 use Rattle.table.specs.declared.Made.the-variants as made
-use Rattle.table.specs.declared.Refusal.the-variants.{Limits, Broken, Node, Text, Rule, Packet, Steps, Nodes, Frames, Out, Label, RuleText}
+use Rattle.table.specs.declared.Refusal.the-variants.{Limits, Broken, Node, Text, Rule, Packet, Steps, Nodes, Frames, Out, Label, RuleText, Week}
 
 -- the refusals in the order of their numbers
-pub numbers : map number (Limits ∷ Broken ∷ Node ∷ Text ∷ Rule ∷ Packet ∷ Steps ∷ Nodes ∷ Frames ∷ Out ∷ Label ∷ RuleText ∷ [])
-    ≡ 1 ∷ 2 ∷ 3 ∷ 4 ∷ 5 ∷ 6 ∷ 7 ∷ 8 ∷ 9 ∷ 10 ∷ 11 ∷ 12 ∷ []
+pub numbers : map number (Limits ∷ Broken ∷ Node ∷ Text ∷ Rule ∷ Packet ∷ Steps ∷ Nodes ∷ Frames ∷ Out ∷ Label ∷ RuleText ∷ Week ∷ [])
+    ≡ 1 ∷ 2 ∷ 3 ∷ 4 ∷ 5 ∷ 6 ∷ 7 ∷ 8 ∷ 9 ∷ 10 ∷ 11 ∷ 12 ∷ 13 ∷ []
 unfolding number
 numbers = refl
 
 -- "Numbers 1 to 6, and any above 10 added later, leave lent memory as found. Numbers 7 to 10 set to 0 [..]", in the same order
-pub clearing : map clears (Limits ∷ Broken ∷ Node ∷ Text ∷ Rule ∷ Packet ∷ Steps ∷ Nodes ∷ Frames ∷ Out ∷ Label ∷ RuleText ∷ [])
-    ≡ false ∷ false ∷ false ∷ false ∷ false ∷ false ∷ true ∷ true ∷ true ∷ true ∷ false ∷ false ∷ []
+pub clearing : map clears (Limits ∷ Broken ∷ Node ∷ Text ∷ Rule ∷ Packet ∷ Steps ∷ Nodes ∷ Frames ∷ Out ∷ Label ∷ RuleText ∷ Week ∷ [])
+    ≡ false ∷ false ∷ false ∷ false ∷ false ∷ false ∷ true ∷ true ∷ true ∷ true ∷ false ∷ false ∷ false ∷ []
 unfolding clears number
 clearing = refl
 
@@ -59,3 +60,8 @@ equals = (refl, refl)
 pub comparisons : map sameNumbers (compared.Equal ∷ compared.Different ∷ compared.Refused Node ∷ []) ≡ (0 ∷ 1 ∷ []) ∷ (0 ∷ 0 ∷ []) ∷ (3 ∷ 0 ∷ []) ∷ []
 unfolding sameNumbers number
 comparisons = refl
+
+-- a number, none and a refusal as an answer's three numbers
+pub givens : map givenNumbers (given.Number 28 ∷ given.Nothing ∷ given.Refused Week ∷ []) ≡ (0 ∷ 1 ∷ 28 ∷ []) ∷ (0 ∷ 0 ∷ 0 ∷ []) ∷ (13 ∷ 0 ∷ 0 ∷ []) ∷ []
+unfolding givenNumbers number
+givens = refl

@@ -27,6 +27,8 @@ pub enum Refusal {
     Label,
     // a rule text has no reading
     RuleText,
+    // a week, a day or a minute is broken
+    Week,
 }
 
 // The answer of an operation that makes nodes: the node and the new count of used nodes.
@@ -39,5 +41,12 @@ pub enum Made {
 pub enum Compared {
     Equal,
     Different,
+    Refused(Refusal),
+}
+
+// The answer of an operation that gives a number or none.
+pub enum Given {
+    Number(usize),
+    Nothing,
     Refused(Refusal),
 }

@@ -1,12 +1,14 @@
 //! What the comparison, the program's test and the benchmark share: packets, rules, texts and rule
 //! texts from a seeded generator, an answer as a list of numbers or as a program's line, stops tried again
-//! with one more of what they name, and which requests of document 02 hold.
+//! with one more of what they name, weeks of windows beside the model, and which requests of document 02
+//! hold.
 
 pub mod packets;
 pub mod random;
 pub mod stops;
 pub mod texts;
 pub mod trees;
+pub mod weeks;
 
 /// What the second evaluator goes by: document 01 and, of document 02, [2], [1], [4] and [8]. It tells
 /// the uses of each rule ([5]) and where a run stopped ([14]) whatever holds.
@@ -76,6 +78,11 @@ pub fn same_of(same: lazvorn::Same) -> model::Same {
 /// The same of an answer about where a run stopped.
 pub fn stopped_of(stopped: lazvorn::Stopped) -> model::Stopped {
     [stopped.refusal, stopped.place, stopped.steps, stopped.rule]
+}
+
+/// The same of an answer about a week.
+pub fn window_of(answer: lazvorn::WindowNumbers) -> model::week::WindowAnswer {
+    [answer.refusal, answer.found, answer.number]
 }
 
 /// The same of an answer of Apply or Run, with the uses of each rule.

@@ -1,14 +1,15 @@
 //! Compares the engine with the second evaluator on packets, run and labelled, and with the model on
-//! packets, on calls of each operation, on texts and their beginnings and on rule texts: answers and
-//! every lent word and byte. Each stop while applying is tried again with one more of what it names.
-//! Labelled rules are held to the rules alone too, and rule texts printed from random expressions to the
-//! expressions. Prints each difference, of rule texts the first few, how often each refusal was met, how
-//! many packets used each rule, what became of labels, how many runs stopped while applying and where,
-//! how many of them were tried again and what became of them, how often each stage of a labelling lacked
-//! room, how many calls had two equal nodes or no free node, what kinds of trees were taken apart or
-//! compared, and how many labelled rules ran beside a label, or were rules, that never ended. The exit
-//! status is 1 where anything differs, and where one of these that can be met was met too seldom for the
-//! run to mean something.
+//! packets, on calls of each operation, on texts and their beginnings, on rule texts and on weeks of
+//! windows: answers and every lent word and byte. Each stop while applying is tried again with one more
+//! of what it names. Labelled rules are held to the rules alone too, and rule texts printed from random
+//! expressions to the expressions. Prints each difference, of rule texts and weeks the first few, how
+//! often each refusal was met, how many packets used each rule, what became of labels, how many runs
+//! stopped while applying and where, how many of them were tried again and what became of them, how
+//! often each stage of a labelling lacked room, how many calls had two equal nodes or no free node,
+//! what kinds of trees were taken apart or compared, how many labelled rules ran beside a label, or
+//! were rules, that never ended, and how many weeks were of each kind and what became of the minutes
+//! asked about. The exit status is 1 where anything differs, and where one of these that can be met was
+//! met too seldom for the run to mean something.
 //!
 //! `compare [PACKETS [SEED]]`
 
@@ -24,7 +25,8 @@ mod unlabel;
 use compare::packets::{self, WRONG_LABELS};
 use compare::random::Random;
 use compare::stops::{self, AGAIN, NUMBERS};
-use compare::RULES;
+use compare::weeks::{self, KINDS, MET, REFUSED};
+use compare::{window_of, RULES};
 use model::Memory;
 
 /// How many runs of packets and how many calls of each operation a run compares if nothing else is
@@ -39,6 +41,10 @@ const BEGINNINGS: usize = 20_000;
 /// How many rules are labelled and applied.
 const LABELLED_RULES: usize = 4_000;
 
+/// How many weeks are asked about, and how many of their differences are printed.
+const WEEKS: usize = 20_000;
+const WEEKS_SHOWN: usize = 20;
+
 /// How often a packet that is run must meet each refusal from 4 to 10, in how many that succeed each
 /// rule must be used, how often each kind of label must be met, how often a run must stop while applying
 /// with each refusal, at each argument and wanting each rule, and be tried again with each outcome, how
@@ -50,6 +56,9 @@ const SELDOM: usize = 100;
 /// How often rule texts with a known outcome, and rule texts with one byte changed, must succeed and
 /// meet each of their refusals.
 const SELDOM_TEXTS: usize = 1_000;
+
+/// How many weeks must be of each kind, and how often a minute of a week must meet each outcome.
+const SELDOM_WEEKS: usize = 500;
 
 /// How often each refusal was met, and 0 for success.
 pub type Counts = [usize; 12];
@@ -143,9 +152,14 @@ type Met = Vec<(String, usize)>;
 
 /// Prints how often each of these was met, after a word; how many of them were met too seldom.
 fn print_met(word: &str, met: &Met) -> usize {
+    print_met_at_least(SELDOM, word, met)
+}
+
+/// The same where each must be met so often.
+fn print_met_at_least(least: usize, word: &str, met: &Met) -> usize {
     let shown: Vec<String> = met.iter().map(|(what, n)| format!("{what}: {n}")).collect();
     println!("{:<10} {word} {}", "", shown.join(", "));
-    let seldom = met.iter().filter(|(_, count)| *count < SELDOM);
+    let seldom = met.iter().filter(|(_, count)| *count < least);
     let seldom =
         seldom.inspect(|(what, n)| println!("{word} {what} was met {n} times: too seldom"));
     seldom.count()
@@ -290,6 +304,42 @@ fn compare_beginnings(random: &mut Random, noise: &Noise) -> usize {
     short.differences + completed.differences
 }
 
+/// How often each of these was met, by its name in the code.
+fn named<T: std::fmt::Debug>(names: &[T], counts: &[usize]) -> Met {
+    let names = names.iter().map(|name| format!("{name:?}"));
+    names.zip(counts.iter().copied()).collect()
+}
+
+/// Compares weeks; how many minutes differ, and how many kinds and outcomes were met too seldom.
+fn compare_weeks(random: &mut Random) -> usize {
+    let window = |week: &[u32], day, minute| window_of(lazvorn::window(week, day, minute));
+    let next = |week: &[u32], day, minute| window_of(lazvorn::next_window(week, day, minute));
+    let (mut compared, mut wrong) = (weeks::Compared::default(), Vec::new());
+    for _ in 0..WEEKS {
+        wrong.extend(compared.compare(random, window, next));
+    }
+    for difference in wrong.iter().take(WEEKS_SHOWN) {
+        println!("{difference}");
+    }
+    let mut counts = [0; 14];
+    counts[0] = compared.met[..2].iter().sum();
+    counts[13] = compared.refused.iter().sum();
+    print("Windows", &counts, [13]);
+    let [taken, refused] = compared.unknown;
+    let unknown = vec![
+        ("taken".to_string(), taken),
+        ("refused".to_string(), refused),
+    ];
+    let seldom = [
+        ("weeks", named(&KINDS, &compared.kinds)),
+        ("Changed and Noise", unknown),
+        ("minutes met", named(&MET, &compared.met)),
+        ("refused for", named(&REFUSED, &compared.refused)),
+    ]
+    .map(|(word, met)| print_met_at_least(SELDOM_WEEKS, word, &met));
+    wrong.len() + seldom.iter().sum::<usize>()
+}
+
 /// Packets are compared in two threads beside everything else in a third, each from a seed of its own.
 fn main() {
     let words: Vec<u64> = std::env::args()
@@ -307,6 +357,7 @@ fn main() {
             + compare_labelled_rules(random, noise)
             + compare_texts(random, noise)
             + compare_beginnings(random, noise)
+            + compare_weeks(random)
     };
     // The model and the second evaluator recurse as deep as trees and frames go.
     let deep = || std::thread::Builder::new().stack_size(1 << 30);

@@ -152,6 +152,48 @@ pub struct TextNumbers {
     pub bytes: usize,
 }
 
+/// The three numbers of an answer about a week. Those after the refusal are 0 where there is no window.
+#[derive(Clone, Copy, Debug, Default, PartialEq, Eq)]
+pub struct WindowNumbers {
+    /// 0 for success, else the refusal's number.
+    pub refusal: usize,
+    /// 1 if there is a window, else 0.
+    pub found: usize,
+    /// The packet number of `window`, the minutes of `next_window`.
+    pub number: usize,
+}
+
+impl WindowNumbers {
+    /// The packet number or the minutes, none where there is no window, or the refusal's number.
+    pub fn given(&self) -> Result<Option<usize>, usize> {
+        match (self.refusal, self.found) {
+            (0, 0) => Ok(None),
+            (0, _) => Ok(Some(self.number)),
+            (refusal, _) => Err(refusal),
+        }
+    }
+}
+
+/// A window has the minutes of its day from `first` on, up to `end` and without it. Three zeros are an
+/// unused place.
+#[derive(Clone, Copy, Debug, Default, PartialEq, Eq)]
+pub struct Window {
+    /// Below `end`.
+    pub first: u32,
+    /// At most 1,440.
+    pub end: u32,
+    /// From 1 to 28.
+    pub packet: u32,
+}
+
+/// Seven days of at most four windows each. The windows of a day ascend and do not overlap, and unused
+/// places come after them.
+#[derive(Clone, Copy, Debug, Default, PartialEq, Eq)]
+pub struct Week(pub [[Window; 4]; 7]);
+
+/// How many numbers a week has.
+pub const WEEK_NUMBERS: usize = 84;
+
 /// Table or stack too long, `used` above the capacity, out bytes or step limit too large.
 pub const LIMITS: usize = 1;
 /// A used node is broken, or two used nodes are equal.
@@ -176,6 +218,8 @@ pub const OUT: usize = 10;
 pub const NOT_LABELLED: usize = 11;
 /// A rule text is outside the grammar, has an unbound name, or is too long or too deep.
 pub const RULE_TEXT: usize = 12;
+/// A week is broken, a day above 6 or a minute above 1,439.
+pub const WEEK: usize = 13;
 
 /// A slice crosses the boundary as a pointer and a length. Nothing checks these declarations
 /// against the library, so `tests/boundary.rs` calls each with arguments that differ.
@@ -285,6 +329,20 @@ mod raw {
             out: *mut u8,
             out_len: usize,
             answer: *mut [usize; 2],
+        );
+        pub fn lazvorn_window(
+            week: *const u32,
+            week_len: usize,
+            day: usize,
+            minute: usize,
+            answer: *mut [usize; 3],
+        );
+        pub fn lazvorn_next_window(
+            week: *const u32,
+            week_len: usize,
+            day: usize,
+            minute: usize,
+            answer: *mut [usize; 3],
         );
     }
 }
@@ -521,4 +579,51 @@ pub fn rule_text(text: &[u8], out: &mut [u8]) -> TextNumbers {
     };
     let [refusal, bytes] = answer;
     TextNumbers { refusal, bytes }
+}
+
+/// An exported function that reads a week.
+type OnWeek = unsafe extern "C" fn(*const u32, usize, usize, usize, *mut [usize; 3]);
+
+/// Calls such a function with a week as a pointer and a count.
+unsafe fn on_week(call: OnWeek, week: &[u32], day: usize, minute: usize) -> WindowNumbers {
+    let mut answer = [usize::MAX; 3];
+    call(week.as_ptr(), week.len(), day, minute, &mut answer);
+    let [refusal, found, number] = answer;
+    WindowNumbers {
+        refusal,
+        found,
+        number,
+    }
+}
+
+/// The packet number of the window that holds a minute, in a week of 84 numbers: first, end and packet
+/// of each place, day after day. Any other count of numbers is refused.
+pub fn window(week: &[u32], day: usize, minute: usize) -> WindowNumbers {
+    unsafe { on_week(raw::lazvorn_window, week, day, minute) }
+}
+
+/// The minutes until the next window begins, in a week as of `window`: 0 where one begins at this minute.
+/// After the week's end come the windows of its days again, up to those of this day that began earlier.
+pub fn next_window(week: &[u32], day: usize, minute: usize) -> WindowNumbers {
+    unsafe { on_week(raw::lazvorn_next_window, week, day, minute) }
+}
+
+impl Week {
+    /// The 84 numbers that `window` and `next_window` read.
+    pub fn numbers(&self) -> [u32; WEEK_NUMBERS] {
+        std::array::from_fn(|i| {
+            let window = self.0[i / 12][i / 3 % 4];
+            [window.first, window.end, window.packet][i % 3]
+        })
+    }
+
+    /// The packet number of the window that holds a minute of a day, or the refusal's number.
+    pub fn window_at(&self, day: usize, minute: usize) -> Result<Option<usize>, usize> {
+        window(&self.numbers(), day, minute).given()
+    }
+
+    /// The minutes until the next window begins, or the refusal's number.
+    pub fn next_window(&self, day: usize, minute: usize) -> Result<Option<usize>, usize> {
+        next_window(&self.numbers(), day, minute).given()
+    }
 }

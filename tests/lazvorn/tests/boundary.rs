@@ -3,8 +3,9 @@
 //! one too few of each, so that an argument in another's place, or a length that is lost, shows.
 
 use lazvorn::{
-    Counted, Numbers, Parts, Rule, Same, Stopped, TextNumbers, Uses, BROKEN, FRAMES, LIMITS, NODE,
-    NODES, NOT_LABELLED, OUT, PACKET, RULE, RULE_TEXT, STEPS, TEXT,
+    Counted, Numbers, Parts, Rule, Same, Stopped, TextNumbers, Uses, Week, Window, WindowNumbers,
+    BROKEN, FRAMES, LIMITS, NODE, NODES, NOT_LABELLED, OUT, PACKET, RULE, RULE_TEXT, STEPS, TEXT,
+    WEEK,
 };
 
 /// Fills memory that is to be left as found, or overwritten.
@@ -1173,6 +1174,427 @@ fn rule_text_on_a_stack_of_1_mib() {
     assert!(thread.spawn(texts).expect("a thread").join().is_ok());
 }
 
+extern "C" {
+    fn lazvorn_window(
+        week: *const u32,
+        week_len: usize,
+        day: usize,
+        minute: usize,
+        answer: *mut usize,
+    );
+    fn lazvorn_next_window(
+        week: *const u32,
+        week_len: usize,
+        day: usize,
+        minute: usize,
+        answer: *mut usize,
+    );
+}
+
+/// A function of the library that reads a week, and its safe form.
+type OnWeek = (
+    unsafe extern "C" fn(*const u32, usize, usize, usize, *mut usize),
+    fn(&[u32], usize, usize) -> WindowNumbers,
+);
+
+const WINDOW: OnWeek = (lazvorn_window, lazvorn::window);
+const NEXT_WINDOW: OnWeek = (lazvorn_next_window, lazvorn::next_window);
+
+/// Calls such a function with noise around the week and around the answer. Nothing but the answer's three
+/// numbers may be written, and the safe form must answer the same.
+fn ask((call, safe): OnWeek, week: &[u32], day: usize, minute: usize) -> WindowNumbers {
+    let noise = &[NOISE; BEYOND][..];
+    let mut lent = [noise, week, noise].concat();
+    let found = lent.clone();
+    let mut numbers = [usize::MAX - 1; BEYOND + 3 + BEYOND];
+    unsafe {
+        let (week_at, answer_at) = (lent.as_mut_ptr(), numbers.as_mut_ptr());
+        let (week_at, answer_at) = (week_at.add(BEYOND), answer_at.add(BEYOND));
+        call(week_at, week.len(), day, minute, answer_at);
+    }
+    assert_eq!(lent, found);
+    let (before, rest) = numbers.split_at(BEYOND);
+    let (answer, after) = rest.split_at(3);
+    assert_eq!([before, after], [&[usize::MAX - 1; BEYOND]; 2]);
+    let answer = WindowNumbers {
+        refusal: answer[0],
+        found: answer[1],
+        number: answer[2],
+    };
+    assert_eq!(safe(week, day, minute), answer);
+    answer
+}
+
+/// The packet number or the minutes of a week that is not broken.
+fn given(number: usize) -> WindowNumbers {
+    WindowNumbers {
+        refusal: 0,
+        found: 1,
+        number,
+    }
+}
+
+const NO_WINDOW: WindowNumbers = WindowNumbers {
+    refusal: 0,
+    found: 0,
+    number: 0,
+};
+
+const REFUSED_WEEK: WindowNumbers = WindowNumbers {
+    refusal: WEEK,
+    found: 0,
+    number: 0,
+};
+
+/// The numbers of a week with windows on some days, each day's from its first place on.
+fn week(days: &[(usize, &[[u32; 3]])]) -> Vec<u32> {
+    let mut week = vec![0; 84];
+    for (day, windows) in days {
+        let windows = windows.concat();
+        week[12 * day..12 * day + windows.len()].copy_from_slice(&windows);
+    }
+    week
+}
+
+/// A week is refused by both functions, whatever is asked.
+fn is_refused(week: &[u32]) {
+    for (day, minute) in [(0, 0), (3, 25), (6, 1_439), (7, 0), (0, 1_440)] {
+        for function in [WINDOW, NEXT_WINDOW] {
+            let answer = ask(function, week, day, minute);
+            assert_eq!(answer, REFUSED_WEEK, "{day} {minute} {week:?}");
+        }
+    }
+}
+
+/// A week is taken by both functions.
+fn is_taken(week: &[u32]) {
+    for (day, minute) in [(0, 0), (3, 25), (6, 1_439)] {
+        for function in [WINDOW, NEXT_WINDOW] {
+            let answer = ask(function, week, day, minute);
+            assert_eq!(answer.refusal, 0, "{day} {minute} {week:?}");
+        }
+    }
+}
+
+/// Days and minutes with the packet number, 0 where there is none, and the minutes to the next beginning.
+const MINUTES: [(usize, usize, usize, usize); 37] = [
+    // Windows from 0 to 1, 1 to 60, 100 to 200 and 1,439 to 1,440.
+    (0, 0, 1, 0),
+    (0, 1, 2, 0),
+    (0, 2, 2, 98),
+    (0, 59, 2, 41),
+    (0, 60, 0, 40),
+    (0, 99, 0, 1),
+    (0, 100, 3, 0),
+    (0, 101, 3, 1_338),
+    (0, 199, 3, 1_240),
+    (0, 200, 0, 1_239),
+    (0, 1_438, 0, 1),
+    (0, 1_439, 4, 0),
+    // None, and on the next day from 600 to 601.
+    (1, 0, 0, 2_040),
+    (1, 1_439, 0, 601),
+    (2, 599, 0, 1),
+    (2, 600, 28, 0),
+    (2, 601, 0, 839),
+    // The whole day; then none for two days, and from 30 on the third.
+    (3, 0, 9, 0),
+    (3, 1, 9, 4_349),
+    (3, 1_439, 9, 2_911),
+    (4, 0, 0, 2_910),
+    (5, 700, 0, 770),
+    // From 30 to 90, 90 to 1,000 and 1,100 to 1,438; then from 0 on the first day.
+    (6, 0, 0, 30),
+    (6, 29, 0, 1),
+    (6, 30, 5, 0),
+    (6, 31, 5, 59),
+    (6, 89, 5, 1),
+    (6, 90, 6, 0),
+    (6, 91, 6, 1_009),
+    (6, 999, 6, 101),
+    (6, 1_000, 0, 100),
+    (6, 1_099, 0, 1),
+    (6, 1_100, 7, 0),
+    (6, 1_101, 7, 339),
+    (6, 1_437, 7, 3),
+    (6, 1_438, 0, 2),
+    (6, 1_439, 0, 1),
+];
+
+#[test]
+fn windows_of_a_week() {
+    let week = week(&[
+        (
+            0,
+            &[[0, 1, 1], [1, 60, 2], [100, 200, 3], [1_439, 1_440, 4]],
+        ),
+        (2, &[[600, 601, 28]]),
+        (3, &[[0, 1_440, 9]]),
+        (6, &[[30, 90, 5], [90, 1_000, 6], [1_100, 1_438, 7]]),
+    ]);
+    for (day, minute, packet, minutes) in MINUTES {
+        let window = match packet {
+            0 => NO_WINDOW,
+            packet => given(packet),
+        };
+        assert_eq!(ask(WINDOW, &week, day, minute), window, "{day} {minute}");
+        let next = ask(NEXT_WINDOW, &week, day, minute);
+        assert_eq!(next, given(minutes), "{day} {minute}");
+    }
+}
+
+/// Windows by their days, and days and minutes with the minutes until the next of them begins.
+type Beginnings = (
+    &'static [(usize, &'static [[u32; 3]])],
+    &'static [(usize, usize, usize)],
+);
+
+const BEGINNINGS: [Beginnings; 8] = [
+    // Five days and 61 minutes are 7,261; two days and 600 minutes are 3,480.
+    (
+        &[(2, &[[600, 660, 4]]), (5, &[[60, 120, 8]])],
+        &[(5, 60, 0), (5, 61, 10_080 - 7_261 + 3_480)],
+    ),
+    (
+        &[(2, &[[600, 660, 4]]), (5, &[[60, 120, 8]])],
+        &[(6, 0, 1_440 + 3_480), (6, 1_439, 3_481), (0, 0, 3_480)],
+    ),
+    // The only window of the week: before it on its day, at its first, and after that.
+    (
+        &[(4, &[[600, 700, 11]])],
+        &[(4, 599, 1), (4, 600, 0), (4, 601, 10_080 - 1)],
+    ),
+    (
+        &[(4, &[[600, 700, 11]])],
+        &[(4, 700, 10_080 - 100), (4, 1_439, 10_080 - 839)],
+    ),
+    // On other days, four days and 600 minutes being 6,360.
+    (
+        &[(4, &[[600, 700, 11]])],
+        &[
+            (3, 1_439, 601),
+            (5, 0, 9_240),
+            (6, 1_439, 6_361),
+            (0, 0, 6_360),
+        ],
+    ),
+    // The first of two on the only day.
+    (
+        &[(2, &[[100, 200, 4], [300, 400, 5]])],
+        &[(2, 101, 199), (2, 300, 0), (2, 301, 10_080 - 201)],
+    ),
+    // The first and the last minute of the week.
+    (
+        &[(0, &[[0, 1, 1]])],
+        &[(0, 0, 0), (0, 1, 10_079), (6, 1_439, 1)],
+    ),
+    (
+        &[(6, &[[1_439, 1_440, 1]])],
+        &[(0, 0, 10_079), (6, 1_438, 1), (6, 1_439, 0)],
+    ),
+];
+
+/// Past the week's end comes its first window again, and that may be one of this day that began earlier.
+#[test]
+fn next_window_past_the_weeks_end() {
+    for (days, minutes) in BEGINNINGS {
+        for (day, minute, minutes) in minutes {
+            let next = ask(NEXT_WINDOW, &week(days), *day, *minute);
+            assert_eq!(next, given(*minutes), "{day} {minute} {days:?}");
+        }
+    }
+}
+
+#[test]
+fn a_week_without_windows() {
+    for day in 0..7 {
+        for minute in [0, 1, 720, 1_439] {
+            assert_eq!(ask(WINDOW, &[0; 84], day, minute), NO_WINDOW);
+            assert_eq!(ask(NEXT_WINDOW, &[0; 84], day, minute), NO_WINDOW);
+        }
+    }
+}
+
+/// Windows that no place may have: first, end and packet beyond their borders, each alone, and places that
+/// are neither used nor unused.
+const BROKEN_WINDOWS: [[u32; 3]; 25] = [
+    [30, 30, 1],
+    [31, 30, 1],
+    [1_440, 1_440, 1],
+    [1_439, 1_441, 1],
+    [30, 1_441, 1],
+    [1_440, 1_441, 1],
+    [30, u32::MAX, 1],
+    [u32::MAX, u32::MAX, 1],
+    [u32::MAX, 31, 1],
+    [u32::MAX, 0, 1],
+    [65_536 + 30, 31, 1],
+    [30, 65_536 + 31, 1],
+    [30, 31, 0],
+    [30, 31, 29],
+    [30, 31, 256 + 1],
+    [30, 31, 65_536 + 1],
+    [30, 31, u32::MAX],
+    // One or two zeros.
+    [30, 0, 0],
+    [0, 31, 0],
+    [0, 0, 1],
+    [0, 1, 0],
+    [1, 0, 0],
+    [30, 0, 1],
+    [0, 0, 29],
+    [0, 0, u32::MAX],
+];
+
+/// On every place of the week, after windows up to minute 30.
+#[test]
+fn each_place_of_a_week() {
+    let before = [[0, 10, 27], [10, 20, 27], [20, 30, 27]];
+    for place in 0..28 {
+        let (day, used) = (place / 4, place % 4);
+        let with = |window| week(&[(day, &[&before[..used], &[window]].concat())]);
+        for window in [
+            [30, 31, 1],
+            [30, 1_440, 28],
+            [1_439, 1_440, 2],
+            [31, 33, 14],
+        ] {
+            let [first, end, packet] = window.map(|number| number as usize);
+            let week = with(window);
+            for minute in [first, end - 1] {
+                assert_eq!(ask(WINDOW, &week, day, minute), given(packet));
+            }
+            assert_eq!(ask(NEXT_WINDOW, &week, day, first), given(0));
+            assert_eq!(ask(NEXT_WINDOW, &week, day, 30), given(first - 30));
+            is_taken(&week);
+        }
+        for window in BROKEN_WINDOWS {
+            is_refused(&with(window));
+        }
+    }
+}
+
+/// Windows of a day ascend and do not overlap; they may adjoin.
+#[test]
+fn windows_of_each_day() {
+    for day in 0..7 {
+        let of = |windows: &[[u32; 3]]| week(&[(day, windows)]);
+        let adjoining = [
+            [0, 360, 1],
+            [360, 720, 2],
+            [720, 1_080, 3],
+            [1_080, 1_440, 4],
+        ];
+        is_taken(&of(&adjoining));
+        for i in 1..4 {
+            // By one minute at the end of one, at the first of the next; then the same window twice, and two
+            // in the other order.
+            let with = |change: fn(&mut [[u32; 3]], usize)| {
+                let mut windows = adjoining;
+                change(&mut windows, i);
+                of(&windows)
+            };
+            is_refused(&with(|windows, i| windows[i - 1][1] += 1));
+            is_refused(&with(|windows, i| windows[i][0] -= 1));
+            is_refused(&with(|windows, i| windows[i] = windows[i - 1]));
+            is_refused(&with(|windows, i| windows.swap(i - 1, i)));
+            is_taken(&with(|windows, i| windows[i - 1][1] -= 1));
+            is_taken(&with(|windows, i| windows[i][0] += 1));
+        }
+        // One within the other, and a third that overlaps only the first.
+        is_refused(&of(&[[10, 90, 1], [20, 30, 1]]));
+        is_refused(&of(&[[20, 30, 1], [10, 90, 1]]));
+        is_refused(&of(&[[10, 20, 1], [30, 40, 1], [15, 25, 1]]));
+        is_refused(&of(&[[10, 20, 1], [30, 40, 1], [20, 30, 1]]));
+        // Other days go by themselves.
+        let other = (day + 1) % 7;
+        is_taken(&week(&[(day, &[[20, 30, 1]]), (other, &[[10, 25, 1]])]));
+    }
+}
+
+/// No used place comes after an unused one.
+#[test]
+fn unused_places() {
+    let (window, unused) = ([20, 30, 1], [0; 3]);
+    for day in 0..7 {
+        let of = |windows: &[[u32; 3]]| week(&[(day, windows)]);
+        is_taken(&of(&[window, unused, unused, unused]));
+        is_taken(&of(&[[0, 1, 1], window, unused, unused]));
+        is_refused(&of(&[unused, window]));
+        is_refused(&of(&[unused, unused, window]));
+        is_refused(&of(&[unused, unused, unused, window]));
+        is_refused(&of(&[[0, 1, 1], unused, window]));
+        is_refused(&of(&[[0, 1, 1], unused, unused, window]));
+        is_refused(&of(&[[0, 1, 1], [1, 2, 1], unused, window]));
+    }
+}
+
+/// Days up to 6 and minutes up to 1,439, of all the bits that a number has.
+#[test]
+fn days_and_minutes() {
+    let week = week(&[(0, &[[0, 1_440, 3]]), (6, &[[1_439, 1_440, 5]])]);
+    assert_eq!(ask(WINDOW, &week, 6, 1_439), given(5));
+    assert_eq!(ask(NEXT_WINDOW, &week, 6, 1_439), given(0));
+    let beyond = |border: usize| {
+        let bits = [8, 16, 31, 32, 63].map(|bits| 1_usize << bits);
+        let numbers = [&[border, border + 1, usize::MAX][..], &bits].concat();
+        numbers.into_iter().filter(move |number| *number >= border)
+    };
+    for function in [WINDOW, NEXT_WINDOW] {
+        for day in beyond(7) {
+            assert_eq!(ask(function, &week, day, 0), REFUSED_WEEK, "{day}");
+            assert_eq!(ask(function, &week, day, 1_440), REFUSED_WEEK, "{day}");
+        }
+        for minute in beyond(1_440) {
+            assert_eq!(ask(function, &week, 0, minute), REFUSED_WEEK, "{minute}");
+            assert_eq!(ask(function, &week, 6, minute), REFUSED_WEEK, "{minute}");
+        }
+        // Without windows there is as little to ask beyond the borders.
+        assert_eq!(ask(function, &[0; 84], 7, 0), REFUSED_WEEK);
+        assert_eq!(ask(function, &[0; 84], 0, 1_440), REFUSED_WEEK);
+    }
+}
+
+/// A week is 84 numbers, whatever they and the ones after them are.
+#[test]
+fn lengths_of_weeks() {
+    let numbers = [week(&[(0, &[[0, 1_440, 1]])]), week(&[])].concat();
+    is_taken(&numbers[..84]);
+    for length in [0, 1, 3, 12, 72, 81, 83, 85, 87, 96, 167, 168] {
+        is_refused(&numbers[..length]);
+        is_refused(&vec![0; length]);
+    }
+}
+
+/// The week as a type of Rust: each window in its own three numbers.
+#[test]
+fn weeks_of_rust() {
+    let mut week = Week::default();
+    for (day, windows) in week.0.iter_mut().enumerate() {
+        for (place, window) in windows.iter_mut().enumerate() {
+            let first = (100 * place + 10 * day) as u32;
+            let (end, packet) = (first + 5, (4 * day + place + 1) as u32);
+            *window = Window { first, end, packet };
+        }
+    }
+    let numbers = week.numbers();
+    assert_eq!(numbers[..6], [0, 5, 1, 100, 105, 2]);
+    assert_eq!(numbers[12..15], [10, 15, 5]);
+    assert_eq!(numbers[81..], [360, 365, 28]);
+    assert_eq!(week.window_at(0, 104), Ok(Some(2)));
+    assert_eq!(week.window_at(0, 105), Ok(None));
+    assert_eq!(week.window_at(5, 254), Ok(Some(23)));
+    assert_eq!(week.next_window(0, 104), Ok(Some(96)));
+    // The rest of the day.
+    assert_eq!(week.next_window(6, 361), Ok(Some(1_079)));
+    assert_eq!(Week::default().next_window(6, 361), Ok(None));
+    assert_eq!(week.window_at(7, 0), Err(WEEK));
+    assert_eq!(week.next_window(0, 1_440), Err(WEEK));
+    week.0[3][1].packet = 29;
+    assert_eq!(week.window_at(0, 104), Err(WEEK));
+    assert_eq!(week.next_window(0, 104), Err(WEEK));
+}
+
 /// Every call with a table of so many words, on a packet with this rule. Each refusal but that of `unlabel`
 /// is `refusal`, where nodes are to be made for the rule, else 0.
 fn each_call(words: usize, rule: &[u8], refusal: usize) {
@@ -1195,6 +1617,8 @@ fn each_call(words: usize, rule: &[u8], refusal: usize) {
     assert_eq!(lazvorn::label(&mut lent, 3, 2, 1).refusal, 0);
     assert_eq!(lazvorn::unlabel(&lent, 3, 2).refusal, NOT_LABELLED);
     assert_eq!(lazvorn::same(&lent, 3, 2, 1).refusal, 0);
+    assert_eq!(lazvorn::window(&[0; 84], 6, 1_439), NO_WINDOW);
+    assert_eq!(lazvorn::next_window(&[0; 84], 6, 1_439), NO_WINDOW);
     assert_eq!(
         lazvorn::run(&mut lent, &mut stack, &mut out, &packet).refusal,
         refusal

@@ -9,6 +9,7 @@ use std::collections::{HashMap, HashSet};
 use std::rc::Rc;
 
 pub mod rule_text;
+pub mod week;
 
 /// All that a call may be lent.
 #[derive(Clone, Debug, PartialEq, Eq)]
