@@ -8,7 +8,7 @@ use native.Mathlib.Omega.{arith}
 use lib.Dec.{leb, ltb, eqb}
 use lib.ListN.{length, getD, replicate, List·getD-eq-default}
 use borrow.Author.Tests.{ltb-true, leb-true, leb-false, eqb-true, lt-ltb, le-leb, eq-eqb}
-use Rattle.table.proofs.Words.{and-left, and-right, zero-one}
+use Rattle.table.proofs.Words.{and-left, and-right}
 use Rattle.week.specs.declared.Window.{Window}
 use Rattle.week.specs.Weeks.{isWindow, isUnused, allUnused, isDayFrom, isDay, allDays, isWeek}
 use Rattle.week.specs.Claims.{IsWindow, unused, Ascend, no-more, one-more, IsDay, WindowOf, IsWeek}

@@ -1,12 +1,12 @@
 -- The packet at a minute, exactly. Assumes nothing.
 use Prim.Native.Nat.{ℕ, zero, suc, _≤_, _<_}
 use mathlib.Core.Path.{_≡_, refl, sym, ap, subst, _∙_}
-use mathlib.Core.Bool.{Bool, true, false, cond, _&&_}
-use mathlib.Core.List.{List, [], _∷_, _++_, List·Memᴰ, List·Memᴰ·head, List·Memᴰ·tail, List·Memᴰ·not-nil, List·Memᴰ·cases-cons, List·Memᴰ·append-cases}
+use mathlib.Core.Bool.{Bool, true, false, cond}
+use mathlib.Core.List.{List, [], _∷_, List·Memᴰ, List·Memᴰ·head, List·Memᴰ·tail, List·Memᴰ·not-nil, List·Memᴰ·cases-cons, List·Memᴰ·append-cases}
 use mathlib.Core.Logic.{_↔_, _⊎_, inl, inr}
 use mathlib.Core.Option.{Option, none, some}
 use native.Mathlib.Omega.{arith}
-use lib.Dec.{leb, ltb}
+use lib.Dec.{leb}
 use lib.ListN.{getD, replicate}
 use borrow.Author.Tests.{ltb-true, leb-true, lt-ltb, le-leb}
 use Rattle.table.specs.declared.Refusal.the-variants.{Week}
@@ -67,7 +67,7 @@ window-in x w i k = go (placed x w i)
     go (inl j) = j
     go (inr p) = absurd (unused-no-window (subst IsWindow p k))
 
-pub each : {m : ℕ} {ws : List Window} → Ascend m ws → (w : Window) → List·Memᴰ w ws → IsWindow w
+each : {m : ℕ} {ws : List Window} → Ascend m ws → (w : Window) → List·Memᴰ w ws → IsWindow w
 each no-more w i = absurd (List·Memᴰ·not-nil i)
 each (one-more {w = v} {ws = vs} k h a) w i = go (each a w) (List·Memᴰ·cases-cons i)
   where

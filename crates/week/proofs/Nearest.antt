@@ -19,7 +19,7 @@ use Rattle.week.specs.Claims.{IsWeek, WindowOf, Asked, BrokenInput, Answ
 use Rattle.week.proofs.Days.{below-seven, first-below}
 use Rattle.week.proofs.Checks.{answers-exactly, refused-exactly}
 use Rattle.week.proofs.Held.{window-exactly}
-use Rattle.week.proofs.Begins.{Least, least-none, least-some, least-is, least-empty, of-week, in-week}
+use Rattle.week.proofs.Begins.{least-none, least-some, least-is, least-empty, of-week, in-week}
 
 pub until-is : (from to : ℕ) → from < 10080 → Minutes from to (until from to)
 unfolding until

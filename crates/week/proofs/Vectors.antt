@@ -1,11 +1,10 @@
 -- Worked examples: borders of windows, days that are right and days that are not, the next beginning this week and next week. Assumes nothing.
 use Prim.Native.Nat.{ℕ, _+_, _*_}
 use mathlib.Core.Path.{_≡_, refl}
-use mathlib.Core.Bool.{Bool, true, false}
+use mathlib.Core.Bool.{true, false}
 use mathlib.Core.List.{List, [], _∷_, _++_, map}
 use lib.ListN.{length, replicate}
 use Rattle.table.specs.declared.Refusal.the-variants.{Week}
-use Rattle.table.specs.declared.Given.{Given}
 use Rattle.table.specs.declared.Given.the-variants.{Number, Nothing, Refused}
 use Rattle.table.specs.Refusal.{givenBy}
 use Rattle.week.specs.declared.Window.{Window}

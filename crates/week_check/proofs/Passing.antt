@@ -4,16 +4,14 @@ use mathlib.Core.Path.{_≡_, refl, sym, ap, _∙_}
 use mathlib.Core.Bool.{Bool, true, false, cond, _&&_, _||_}
 use mathlib.Core.List.{List, [], _∷_}
 use native.Mathlib.Omega.{arith}
-use native.Mathlib.Numerals.{add-one}
 use lib.Dec.{leb, eqb}
 use lib.ListN.{length, getD, drop, drop-of-length-le}
-use lib.Seq.{drop-cons}
-use borrow.Author.Tests.{leb-true, lt-leb, le-leb, eqb-true, eq-eqb, ne-eqb}
-use Rattle.table.proofs.Words.{and-left, and-right, told-apart}
+use borrow.Author.Tests.{leb-true, lt-leb, le-leb, eq-eqb}
+use Rattle.table.proofs.Words.{told-apart}
 use Rattle.week.specs.declared.Window.{Window}
 use Rattle.week.specs.Weeks.{isWindow, isUnused, allUnused, isDayFrom, isDay, allDays, isWeek, passes}
-use Rattle.week.specs.Claims.{IsWindow}
-use Rattle.week.proofs.Days.{window-is, window-used, unused-zeros}
+use Rattle.week.proofs.Lists.{from-place}
+use Rattle.week.proofs.Days.{window-is, unused-zeros}
 use Rattle.week_check.specs.Code.{fits}
 
 -- after an unused place, no window begins before the end of the day
@@ -66,18 +64,15 @@ day-stop m w ws = go (isUnused w) (isWindow w) (leb m (w .first))
 -- the places from i on, after a window that ends at the minute m, tell whether the day is right
 module _ (day : List Window) (i m : ℕ) (kept : isDayFrom 0 day ≡ isDayFrom m (drop i day)) where
   module _ (z : Window) (h : i < length day) where
-    places : drop i day ≡ getD day i z ∷ drop (i + 1) day
-    places = drop-cons day i z h ∙ ap (λ (n : ℕ). getD day i z ∷ drop n day) (sym (add-one i))
-
     pub after-unused : fits m (getD day i z) ≡ true → getD day i z .packet ≡ 0 → isDayFrom 0 day ≡ isDayFrom 1440 (drop (i + 1) day)
-    after-unused f e = kept ∙ ap (isDayFrom m) places ∙ step-unused m (getD day i z) (drop (i + 1) day) f e
+    after-unused f e = kept ∙ ap (isDayFrom m) (from-place day i z h) ∙ step-unused m (getD day i z) (drop (i + 1) day) f e
 
     pub after-window : fits m (getD day i z) ≡ true → (getD day i z .packet ≡ 0 → ⊥) → isDayFrom 0 day ≡ isDayFrom (getD day i z .end) (drop (i + 1) day)
-    after-window f n = kept ∙ ap (isDayFrom m) places ∙ step-window m (getD day i z) (drop (i + 1) day) f n
+    after-window f n = kept ∙ ap (isDayFrom m) (from-place day i z h) ∙ step-window m (getD day i z) (drop (i + 1) day) f n
 
     pub day-broken : fits m (getD day i z) ≡ false → false ≡ isDay day
     unfolding isDay
-    day-broken e = rw (kept ∙ ap (isDayFrom m) places ∙ day-stop m (getD day i z) (drop (i + 1) day) e) (go (eqb (length day) 4))
+    day-broken e = rw (kept ∙ ap (isDayFrom m) (from-place day i z h) ∙ day-stop m (getD day i z) (drop (i + 1) day) e) (go (eqb (length day) 4))
       where
         go : (x : Bool) → false ≡ (x && false)
         go true = refl
@@ -90,16 +85,13 @@ module _ (day : List Window) (i m : ℕ) (kept : isDayFrom 0 day ≡ isDayFrom m
 -- the days from d on tell whether each day is right
 module _ (week : List (List Window)) (d : ℕ) (kept : allDays week ≡ allDays (drop d week)) where
   module _ (z : List Window) (h : d < length week) where
-    days : drop d week ≡ getD week d z ∷ drop (d + 1) week
-    days = drop-cons week d z h ∙ ap (λ (n : ℕ). getD week d z ∷ drop n week) (sym (add-one d))
-
     pub after-day : isDay (getD week d z) ≡ true → allDays week ≡ allDays (drop (d + 1) week)
     unfolding allDays
-    after-day e = kept ∙ ap allDays days ∙ rw e
+    after-day e = kept ∙ ap allDays (from-place week d z h) ∙ rw e
 
     pub week-broken : isDay (getD week d z) ≡ false → false ≡ isWeek week
     unfolding isWeek allDays
-    week-broken e = rw (kept ∙ ap allDays days, e) (go (eqb (length week) 7))
+    week-broken e = rw (kept ∙ ap allDays (from-place week d z h), e) (go (eqb (length week) 7))
       where
         go : (x : Bool) → false ≡ (x && false)
         go true = refl

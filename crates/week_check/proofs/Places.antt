@@ -1,11 +1,10 @@
 -- Whether a place fits after the window before it, by the tests that the code makes. Assumes nothing.
 use Prim.Native.Nat.{ℕ, _≤_, _<_}
-use mathlib.Core.Path.{_≡_, refl, sym}
+use mathlib.Core.Path.{_≡_, refl}
 use mathlib.Core.Bool.{Bool, true, false, _&&_, _||_}
 use native.Mathlib.Omega.{arith}
 use lib.Dec.{leb, eqb}
-use borrow.Author.Tests.{leb-true, leb-false, eqb-true, eqb-false, eq-eqb, le-leb}
-use Rattle.table.proofs.Words.{and-left, and-right}
+use borrow.Author.Tests.{leb-true, leb-false, eqb-true, eqb-false}
 use Rattle.week.specs.declared.Window.{Window}
 use Rattle.week.specs.Weeks.{isWindow, isUnused}
 use Rattle.week.specs.Claims.{IsWindow}

@@ -1,6 +1,6 @@
 -- What the check's code takes one place at a time. Assumes nothing: these are definitions.
 use Prim.Native.Nat.{ℕ}
-use mathlib.Core.Bool.{Bool, cond, _&&_, _||_}
+use mathlib.Core.Bool.{Bool, _&&_, _||_}
 use lib.Dec.{leb}
 use Rattle.week.specs.declared.Window.{Window}
 use Rattle.week.specs.Weeks.{isWindow, isUnused}

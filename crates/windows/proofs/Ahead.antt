@@ -1,20 +1,18 @@
 -- Day by day ahead: where no window begins in the minutes passed, the first beginning found on the next day is the next of all. Assumes nothing.
 use Prim.Native.Nat.{ℕ, _+_, _-_, _*_, _%_, _≤_, _<_}
-use mathlib.Core.Path.{_≡_, refl, sym, ap, subst, _∙_}
+use mathlib.Core.Path.{_≡_, refl, sym, subst}
 use mathlib.Core.Bool.{Bool, true, false}
-use mathlib.Core.List.{List, [], List·Memᴰ, List·Memᴰ·not-nil}
-use mathlib.Core.Option.{Option, none, some}
+use mathlib.Core.List.{List, [], List·Memᴰ}
+use mathlib.Core.Option.{none, some}
 use native.Mathlib.Omega.{arith}
 use lib.Dec.{leb}
-use lib.ListN.{length, getD, List·getD-eq-default}
+use lib.ListN.{getD}
 use borrow.Author.Tests.{leb-true, leb-false}
-use Rattle.table.specs.declared.Given.{Given}
 use Rattle.table.specs.declared.Given.the-variants.{Number, Nothing}
 use Rattle.week.specs.declared.Window.{Window}
-use Rattle.week.specs.Weeks.{weekMinute, nextWindow, passes}
-use Rattle.week.specs.Claims.{IsWindow, IsDay, WindowOf, Asked, passed, Minutes, this-week, next-week, Next, begins, no-window}
+use Rattle.week.specs.Weeks.{weekMinute, nextWindow}
+use Rattle.week.specs.Claims.{IsDay, WindowOf, Asked, passed, Minutes, this-week, next-week, begins, no-window}
 use Rattle.week.proofs.Days.{day-of, below-seven, first-below}
-use Rattle.week.proofs.Checks.{asked}
 use Rattle.week.proofs.Nearest.{until-is, here-in-week, begin-in-week, next-exactly}
 use Rattle.windows.specs.Code.{firstFrom}
 use Rattle.windows.proofs.Firsts.{First, first-found, first-missed}

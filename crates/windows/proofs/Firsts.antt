@@ -2,17 +2,17 @@
 use Prim.Native.Nat.{ℕ, zero, suc, _≤_, _<_}
 use mathlib.Core.Path.{_≡_, refl, sym, ap, subst, _∙_}
 use mathlib.Core.Bool.{Bool, true, false, cond}
-use mathlib.Core.List.{List, [], _∷_, _++_, List·Memᴰ, List·Memᴰ·head, List·Memᴰ·tail, List·Memᴰ·not-nil, List·Memᴰ·cases-cons, Memᴰ·append-left}
+use mathlib.Core.List.{List, _∷_, _++_, List·Memᴰ, List·Memᴰ·head, List·Memᴰ·tail, List·Memᴰ·not-nil, List·Memᴰ·cases-cons, Memᴰ·append-left}
 use mathlib.Core.Logic.{_⊎_, inl, inr}
-use mathlib.Core.Option.{Option, none, some}
+use mathlib.Core.Option.{none, some}
 use native.Mathlib.Omega.{arith}
-use lib.Dec.{leb, eqb}
+use lib.Dec.{leb}
 use lib.ListN.{replicate}
 use borrow.Author.Tests.{leb-true, leb-false, ne-eqb}
 use Rattle.table.proofs.Words.{zero-one}
 use Rattle.week.specs.declared.Window.{Window}
 use Rattle.week.specs.Claims.{IsWindow, unused, Ascend, no-more, one-more, IsDay}
-use Rattle.week.proofs.Held.{later, each, window-in}
+use Rattle.week.proofs.Held.{later, window-in}
 use Rattle.windows.specs.Code.{firstFrom}
 
 -- a window of these begins at the minute b, from m on, and none of them from m on begins before

@@ -1,27 +1,21 @@
 -- Laws of the two searches through the places of a day, from place i on. Assumes nothing.
 use Prim.Native.Nat.{ℕ, _+_, _≤_, _<_}
-use mathlib.Core.Path.{_≡_, refl, sym, ap, _∙_}
-use mathlib.Core.Bool.{Bool, true, false, cond, _&&_}
-use mathlib.Core.List.{List, _∷_}
+use mathlib.Core.Path.{_≡_, ap, _∙_}
+use mathlib.Core.Bool.{cond}
+use mathlib.Core.List.{List}
 use mathlib.Core.Option.{none, some}
-use native.Mathlib.Omega.{arith}
-use native.Mathlib.Numerals.{add-one}
-use lib.Dec.{leb, ltb, eqb}
+use lib.Dec.{leb, eqb}
 use lib.ListN.{length, getD, drop, drop-of-length-le}
-use lib.Seq.{drop-cons}
 use borrow.Author.Tests.{le-leb, lt-leb, lt-ltb, le-ltb, eq-eqb, ne-eqb}
 use Rattle.week.specs.declared.Window.{Window}
 use Rattle.week.specs.Weeks.{holds, packetAt}
+use Rattle.week.proofs.Lists.{from-place}
 use Rattle.windows.specs.Code.{firstFrom}
-
--- the places from i on are place i and those after it
-from-place : {A : Type 0} (f : List Window → A) (day : List Window) (i : ℕ) (z : Window) → i < length day → f (drop i day) ≡ f (getD day i z ∷ drop (i + 1) day)
-from-place f day i z h = ap f (drop-cons day i z h ∙ ap (λ (n : ℕ). getD day i z ∷ drop n day) (sym (add-one i)))
 
 module _ (minute : ℕ) (day : List Window) (i : ℕ) (z : Window) (h : i < length day) where
   packet-place : packetAt minute (drop i day) ≡ cond (holds minute (getD day i z)) (some (getD day i z .packet)) (packetAt minute (drop (i + 1) day))
   unfolding packetAt
-  packet-place = from-place (packetAt minute) day i z h
+  packet-place = ap (packetAt minute) (from-place day i z h)
 
   pub packet-here : getD day i z .first ≤ minute → minute < getD day i z .end → packetAt minute (drop i day) ≡ some (getD day i z .packet)
   unfolding holds
@@ -38,7 +32,7 @@ module _ (minute : ℕ) (day : List Window) (i : ℕ) (z : Window) (h : i < leng
   first-place : firstFrom minute (drop i day)
       ≡ cond (eqb (getD day i z .packet) 0) none (cond (leb minute (getD day i z .first)) (some (getD day i z .first)) (firstFrom minute (drop (i + 1) day)))
   unfolding firstFrom
-  first-place = from-place (firstFrom minute) day i z h
+  first-place = ap (firstFrom minute) (from-place day i z h)
 
   pub first-unused : getD day i z .packet ≡ 0 → firstFrom minute (drop i day) ≡ none
   first-unused a = first-place ∙ rw (eq-eqb _ _ a)

@@ -1,5 +1,5 @@
 -- Laws of the two answers, one for each way that their code goes. Assumes nothing.
-use Prim.Native.Nat.{ℕ, zero, suc, _+_, _-_, _*_, _%_, _≤_, _<_}
+use Prim.Native.Nat.{ℕ, _+_, _-_, _*_, _%_, _≤_, _<_}
 use mathlib.Core.Path.{_≡_, refl, sym, ap, subst, _∙_}
 use mathlib.Core.Bool.{true, false}
 use mathlib.Core.List.{List, [], _∷_}
@@ -8,25 +8,20 @@ use mathlib.Core.Option.{Option, none, some}
 use native.Mathlib.Omega.{arith}
 use types.Run
 use denote.Enum.Declared
-use lib.ListN.{length, getD}
+use lib.ListN.{getD}
 use Rattle.table.specs.declared.Refusal.the-variants.{Week}
 use Rattle.table.specs.declared.Given.{Given}
-use Rattle.table.specs.declared.Given.the-variants.{Number, Nothing, Refused}
+use Rattle.table.specs.declared.Given.the-variants.{Number, Refused}
 use Rattle.table.specs.Refusal.{givenBy}
 use Rattle.table.proofs.Given as given
 use Rattle.table.proofs.Words.{zero-one}
 use Rattle.week.specs.declared.Window.{Window}
 use Rattle.week.specs.Weeks.{passes, checked, packetAt, windowAt, nextWindow}
 use Rattle.week.specs.Claims.{Asked}
+use Rattle.week.proofs.Lists.{any-default}
 use Rattle.week.proofs.Checks.{asked}
 use Rattle.windows.specs.Code.{firstFrom}
 use Rattle.windows.proofs.Ahead.{NoneWithin, none-next, found, reaches}
-
--- what is read from a list within its length does not go by what is taken beyond it
-any-default : {A : Type 0} (l : List A) (i : ℕ) (x y : A) → i < length l → getD l i x ≡ getD l i y
-any-default [] i x y h = absurd (omega arith)
-any-default (a ∷ l) zero x y h = refl
-any-default (a ∷ l) (suc i) x y h = any-default l i x y (omega arith)
 
 -- an answer by what was found
 some-number : (o : Option ℕ) {r : Given} {n : ℕ} → r ≡ givenBy o → r ≡ Number n → o ≡ some n

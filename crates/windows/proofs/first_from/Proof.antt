@@ -1,9 +1,8 @@
 -- `windows::first_from` meets its contract. The loop keeps: what is searched stands in the places from i on, if anywhere. Assumes nothing.
-use Prim.Native.Nat.{ℕ, _+_, _-_, _≤_, _<_}
+use Prim.Native.Nat.{_-_, _≤_}
 use mathlib.Core.Path.{_≡_, refl, sym, ap, _∙_}
 use native.Mathlib.Omega.{arith}
 use lib.ListN.{length, drop}
-use borrow.Author.Needs.{needs}
 use Rattle.table.specs.Refusal.{givenBy}
 use Rattle.windows.specs.Code.{firstFrom}
 use Rattle.windows.proofs.Searches.{first-unused, first-here, first-later, first-end}

@@ -1,10 +1,9 @@
 -- `windows::packet_at` meets its contract. The loop keeps: what is searched stands in the places from i on, if anywhere. Assumes nothing.
-use Prim.Native.Nat.{ℕ, _+_, _-_, _≤_, _<_}
+use Prim.Native.Nat.{_-_, _≤_, _<_}
 use mathlib.Core.Path.{_≡_, refl, sym, ap, _∙_}
 use mathlib.Core.Logic.{⊎-elim}
 use native.Mathlib.Omega.{arith}
 use lib.ListN.{length, drop}
-use borrow.Author.Needs.{needs}
 use Rattle.table.specs.Refusal.{givenBy}
 use Rattle.week.specs.Weeks.{packetAt}
 use Rattle.windows.proofs.Searches.{packet-here, packet-before, packet-after, packet-end}

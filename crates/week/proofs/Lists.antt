@@ -1,0 +1,19 @@
+-- Laws of places in a list. Assumes nothing.
+use Prim.Native.Nat.{ℕ, zero, suc, _+_, _<_}
+use mathlib.Core.Path.{_≡_, refl, sym, ap, _∙_}
+use mathlib.Core.List.{List, [], _∷_}
+use native.Mathlib.Omega.{arith}
+use native.Mathlib.Numerals.{add-one}
+use lib.ListN.{length, getD, drop}
+use lib.Seq.{drop-cons}
+
+module _ {A : Type 0} where
+  -- a list from place i on is place i and the list after it
+  pub from-place : (l : List A) (i : ℕ) (z : A) → i < length l → drop i l ≡ getD l i z ∷ drop (i + 1) l
+  from-place l i z h = drop-cons l i z h ∙ ap (λ (n : ℕ). getD l i z ∷ drop n l) (sym (add-one i))
+
+  -- what is read within a list's length does not go by what is taken beyond it
+  pub any-default : (l : List A) (i : ℕ) (x y : A) → i < length l → getD l i x ≡ getD l i y
+  any-default [] i x y h = absurd (omega arith)
+  any-default (a ∷ l) zero x y h = refl
+  any-default (a ∷ l) (suc i) x y h = any-default l i x y (omega arith)
