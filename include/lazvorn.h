@@ -3,8 +3,8 @@
  *
  * A caller lends all memory: a table of 32-bit words, two a node; a stack of 32-bit words, three a
  * frame; out bytes. The library keeps nothing between calls and allocates nothing. A length that
- * follows a pointer counts elements: words for the table and the stack, bytes elsewhere. Where a
- * length is 0 the pointer may be any that is not NULL.
+ * follows a pointer counts elements: words for the table and the stack, numbers for a week, bytes
+ * elsewhere. Where a length is 0 the pointer may be any that is not NULL.
  *
  * Each tree is in the table once: a node that is wanted and is there already is taken, and no two
  * used nodes are equal. So two node numbers are equal exactly when their trees are (lazvorn_same),
@@ -105,7 +105,7 @@ enum {
 };
 
 /* How many numbers lazvorn_window and lazvorn_next_window write, and how many a week has. */
-enum { LAZVORN_WINDOW = 3, LAZVORN_WEEK = 84 };
+enum { LAZVORN_WINDOW = 3, LAZVORN_WEEK_NUMBERS = 84 };
 
 /* The rule that was wanted. */
 enum {

@@ -3,7 +3,7 @@
 #include "lazvorn.h"
 #include <stdio.h>
 
-static uint32_t week[LAZVORN_WEEK];
+static uint32_t week[LAZVORN_WEEK_NUMBERS];
 
 /* Puts a window into a place of a day. */
 static void put(size_t day, size_t place, uint32_t first, uint32_t end, uint32_t packet) {
@@ -26,15 +26,15 @@ int main(void) {
     put(0, 1, 720, 1080, 7);
     put(4, 0, 600, 1440, 28);
     for (size_t i = 0; i < sizeof asked / sizeof *asked; i++) {
-        lazvorn_window(week, LAZVORN_WEEK, asked[i][0], asked[i][1], w);
-        lazvorn_next_window(week, LAZVORN_WEEK, asked[i][0], asked[i][1], n);
+        lazvorn_window(week, LAZVORN_WEEK_NUMBERS, asked[i][0], asked[i][1], w);
+        lazvorn_next_window(week, LAZVORN_WEEK_NUMBERS, asked[i][0], asked[i][1], n);
         if (w[LAZVORN_REFUSAL] != 0 || n[LAZVORN_REFUSAL] != 0) return 1;
         printf("%zu %zu: ", asked[i][0], asked[i][1]);
         print_number(w, LAZVORN_PACKET_NUMBER, " ");
         print_number(n, LAZVORN_MINUTES, ", ");
     }
     put(0, 0, 480, 721, 3);
-    lazvorn_window(week, LAZVORN_WEEK, 4, 601, w);
+    lazvorn_window(week, LAZVORN_WEEK_NUMBERS, 4, 601, w);
     printf("refusal %zu\n", w[LAZVORN_REFUSAL]);
     return 0;
 }

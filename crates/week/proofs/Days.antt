@@ -11,7 +11,7 @@ use borrow.Author.Tests.{ltb-true, leb-true, leb-false, eqb-true, lt-ltb, le-leb
 use Rattle.table.proofs.Words.{and-left, and-right}
 use Rattle.week.specs.declared.Window.{Window}
 use Rattle.week.specs.Weeks.{isWindow, isUnused, allUnused, isDayFrom, isDay, allDays, isWeek}
-use Rattle.week.specs.Claims.{IsWindow, unused, Ascend, no-more, one-more, IsDay, WindowOf, IsWeek}
+use Rattle.week.specs.Claims.{IsWindow, unused, Ascend, no-more, one-more, Filled, IsDay, WindowOf, IsWeek}
 
 pub window-is : (w : Window) → isWindow w ≡ true → IsWindow w
 unfolding isWindow
@@ -71,24 +71,17 @@ unfolding allUnused
 unused-all zero = refl
 unused-all (suc n) = rw is-unused (unused-all n)
 
--- a day's places from which the window before ends at the minute m
-record From (m : ℕ) (day : List Window) : Type 0 where
-  windows : List Window
-  places-left : ℕ
-  places : day ≡ windows ++ replicate places-left unused
-  ascend : Ascend m windows
-
-day-from : (m : ℕ) (ws : List Window) → isDayFrom m ws ≡ true → From m ws
+day-from : (m : ℕ) (ws : List Window) → isDayFrom m ws ≡ true → Filled m ws
 unfolding isDayFrom
-day-from m [] e = record { windows = []; places-left = 0; places = refl; ascend = no-more }
+day-from m [] e = record { windows = []; left = 0; in-order = refl; ascend = no-more }
 day-from m (w ∷ ws) e = go (isUnused w) refl e (λ f. day-from (w .end) ws f)
   where
     go : (z : Bool) → isUnused w ≡ z → cond z (allUnused ws) (isWindow w && (leb m (w .first) && isDayFrom (w .end) ws)) ≡ true
-        → (isDayFrom (w .end) ws ≡ true → From (w .end) ws) → From m (w ∷ ws)
+        → (isDayFrom (w .end) ws ≡ true → Filled (w .end) ws) → Filled m (w ∷ ws)
     go true p f r = record {
       windows = [];
-      places-left = suc (length ws);
-      places = ap (λ (v : Window). v ∷ ws) (unused-is w p) ∙ ap (λ (l : List Window). unused ∷ l) (all-unused ws f);
+      left = suc (length ws);
+      in-order = ap (λ (v : Window). v ∷ ws) (unused-is w p) ∙ ap (λ (l : List Window). unused ∷ l) (all-unused ws f);
       ascend = no-more;
     }
     go false p f r =
@@ -96,8 +89,8 @@ day-from m (w ∷ ws) e = go (isUnused w) refl e (λ f. day-from (w .end) ws f)
         let x = r (and-right (leb m (w .first)) _ g) in
         record {
           windows = w ∷ x .windows;
-          places-left = x .places-left;
-          places = ap (λ (l : List Window). w ∷ l) (x .places);
+          left = x .left;
+          in-order = ap (λ (l : List Window). w ∷ l) (x .in-order);
           ascend = one-more (window-is w (and-left (isWindow w) _ f)) (leb-true _ _ (and-left (leb m (w .first)) _ g)) (x .ascend);
         }
 
@@ -116,12 +109,10 @@ unfolding isDay
 day-exactly day = (there, back)
   where
     there : (eqb (length day) 4 && isDayFrom 0 day) ≡ true → IsDay day
-    there e =
-        let x = day-from 0 day (and-right (eqb (length day) 4) _ e) in
-        record { four = eqb-true _ _ (and-left (eqb (length day) 4) _ e); windows = x .windows; places-left = x .places-left; places = x .places; ascend = x .ascend }
+    there e = record { four = eqb-true _ _ (and-left (eqb (length day) 4) _ e); filled = day-from 0 day (and-right (eqb (length day) 4) _ e) }
 
     back : IsDay day → (eqb (length day) 4 && isDayFrom 0 day) ≡ true
-    back x = rw (eq-eqb _ _ (x .four)) (ap (isDayFrom 0) (x .places) ∙ from-day (x .ascend) (x .places-left))
+    back x = let f = x .filled in rw (eq-eqb _ _ (x .four)) (ap (isDayFrom 0) (f .in-order) ∙ from-day (f .ascend) (f .left))
 
 days-are : (week : List (List Window)) → allDays week ≡ true → (day : List Window) → List·Memᴰ day week → IsDay day
 unfolding allDays
@@ -148,13 +139,13 @@ week-exactly week = (there, back)
     back k = rw (eq-eqb _ _ (k .seven)) (are-days week (k .each-day))
 
 -- day d of a week, d below seven
-in-week : (week : List (List Window)) (d : ℕ) → d < length week → List·Memᴰ (getD week d []) week
-in-week [] d h = absurd (omega arith)
-in-week (ws ∷ days) zero h = List·Memᴰ·head refl
-in-week (ws ∷ days) (suc d) h = List·Memᴰ·tail (in-week days d (omega arith))
+day-in : (week : List (List Window)) (d : ℕ) → d < length week → List·Memᴰ (getD week d []) week
+day-in [] d h = absurd (omega arith)
+day-in (ws ∷ days) zero h = List·Memᴰ·head refl
+day-in (ws ∷ days) (suc d) h = List·Memᴰ·tail (day-in days d (omega arith))
 
 pub day-of : {week : List (List Window)} → IsWeek week → (d : ℕ) → d < 7 → IsDay (getD week d [])
-day-of {week} k d h = k .each-day (getD week d []) (in-week week d (rw (k .seven) h))
+day-of {week} k d h = k .each-day (getD week d []) (day-in week d (rw (k .seven) h))
 
 -- a window stands on one of the seven days, and begins in it
 pub below-seven : {week : List (List Window)} {d : ℕ} {w : Window} → IsWeek week → WindowOf week d w → d < 7

@@ -1,5 +1,5 @@
 -- The packet at a minute, exactly. Assumes nothing.
-use Prim.Native.Nat.{ℕ, zero, suc, _≤_, _<_}
+use Prim.Native.Nat.{ℕ, zero, suc, _≤_}
 use mathlib.Core.Path.{_≡_, refl, sym, ap, subst, _∙_}
 use mathlib.Core.Bool.{Bool, true, false, cond}
 use mathlib.Core.List.{List, [], _∷_, List·Memᴰ, List·Memᴰ·head, List·Memᴰ·tail, List·Memᴰ·not-nil, List·Memᴰ·cases-cons, List·Memᴰ·append-cases}
@@ -16,9 +16,9 @@ use Rattle.table.specs.Refusal.{givenBy}
 use Rattle.table.proofs.Words.{and-left, and-right, told-apart, zero-one}
 use Rattle.week.specs.declared.Window.{Window}
 use Rattle.week.specs.Weeks.{holds, packetAt, windowAt}
-use Rattle.week.specs.Claims.{IsWindow, unused, Ascend, no-more, one-more, IsDay, IsWeek, WindowOf, Asked, BrokenInput, Answers, passed, refused, Holds, At, held, not-held}
-use Rattle.week.proofs.Days.{unused-no-window, day-of}
-use Rattle.week.proofs.Checks.{answers-exactly, refused-exactly}
+use Rattle.week.specs.Claims.{IsWindow, unused, Ascend, no-more, one-more, IsDay, IsWeek, WindowOf, ValidInput, BrokenInput, Answers, passed, Holds, At, held, not-held}
+use Rattle.week.proofs.Days.{unused-no-window, day-of, below-seven}
+use Rattle.week.proofs.Checks.{answers-exactly, refused-exactly, answered}
 
 -- windows that ascend from the minute m begin there or later
 pub later : {m : ℕ} {ws : List Window} → Ascend m ws → (w : Window) → List·Memᴰ w ws → m ≤ w .first
@@ -53,17 +53,17 @@ replicated (suc n) w i = go (replicated n w) (List·Memᴰ·cases-cons i)
     go r (inl p) = p
     go r (inr j) = r j
 
-placed : {day : List Window} (x : IsDay day) (w : Window) → List·Memᴰ w day → List·Memᴰ w (x .windows) ⊎ (w ≡ unused)
-placed {day} x w i = go (List·Memᴰ·append-cases (x .windows) (subst (List·Memᴰ w) (x .places) i))
+placed : {day : List Window} (x : IsDay day) (w : Window) → List·Memᴰ w day → List·Memᴰ w (x .filled .windows) ⊎ (w ≡ unused)
+placed {day} x w i = go (List·Memᴰ·append-cases (x .filled .windows) (subst (List·Memᴰ w) (x .filled .in-order) i))
   where
-    go : List·Memᴰ w (x .windows) ⊎ List·Memᴰ w (replicate (x .places-left) unused) → List·Memᴰ w (x .windows) ⊎ (w ≡ unused)
+    go : List·Memᴰ w (x .filled .windows) ⊎ List·Memᴰ w (replicate (x .filled .left) unused) → List·Memᴰ w (x .filled .windows) ⊎ (w ≡ unused)
     go (inl j) = inl j
-    go (inr j) = inr (replicated (x .places-left) w j)
+    go (inr j) = inr (replicated (x .filled .left) w j)
 
-pub window-in : {day : List Window} (x : IsDay day) (w : Window) → List·Memᴰ w day → IsWindow w → List·Memᴰ w (x .windows)
+pub window-in : {day : List Window} (x : IsDay day) (w : Window) → List·Memᴰ w day → IsWindow w → List·Memᴰ w (x .filled .windows)
 window-in x w i k = go (placed x w i)
   where
-    go : List·Memᴰ w (x .windows) ⊎ (w ≡ unused) → List·Memᴰ w (x .windows)
+    go : List·Memᴰ w (x .filled .windows) ⊎ (w ≡ unused) → List·Memᴰ w (x .filled .windows)
     go (inl j) = j
     go (inr p) = absurd (unused-no-window (subst IsWindow p k))
 
@@ -78,8 +78,8 @@ each (one-more {w = v} {ws = vs} k h a) w i = go (each a w) (List·Memᴰ·cases
 holding : {day : List Window} → IsDay day → {k : ℕ} (w : Window) → List·Memᴰ w day → Holds k w → IsWindow w
 holding x {k} w i h = go (placed x w i)
   where
-    go : List·Memᴰ w (x .windows) ⊎ (w ≡ unused) → IsWindow w
-    go (inl j) = each (x .ascend) w j
+    go : List·Memᴰ w (x .filled .windows) ⊎ (w ≡ unused) → IsWindow w
+    go (inl j) = each (x .filled .ascend) w j
     go (inr p) = let e : w .end ≡ 0 = ap (λ (z : Window). z .end) p in absurd (omega (arith, h .below-end))
 
 holds-is : (k : ℕ) (w : Window) → holds k w ≡ true → Holds k w
@@ -119,16 +119,25 @@ packet-none k (v ∷ vs) e w i h = go (λ f j. packet-none k vs f w j h) (holds 
     go r false q f (inl p) = told-apart (is-held (subst (Holds k) p h)) q
     go r false q f (inr j) = r f j
 
-module _ (week : List (List Window)) (day minute : ℕ) (k : Asked week day minute) where
-  asked-day : IsDay (getD week day [])
-  asked-day = let h = k .day-is in day-of (k .week-is) day (omega arith)
+-- "Windows of a day [..] don't overlap" ([6]): two of one day that hold the same minute are one
+pub never-two : {week : List (List Window)} {d k : ℕ} {v w : Window} → IsWeek week → WindowOf week d v → WindowOf week d w → Holds k v → Holds k w → v ≡ w
+never-two {d = d} {v = v} {w = w} is o p =
+    let x = day-of is d (below-seven is o) in
+    one-window (x .filled .ascend) v w (window-in x v (o .place) (o .a-window)) (window-in x w (p .place) (p .a-window))
+
+module _ (week : List (List Window)) (day minute : ℕ) (k : ValidInput week day minute) where
+  that-day : IsDay (getD week day [])
+  that-day = let h = k .day-is in day-of (k .week-is) day (omega arith)
+
+  -- what is found is a window of the day
+  found : {p : ℕ} (x : Found minute (getD week day []) p) → WindowOf week day (x .window)
+  found x = record { place = x .place; a-window = holding that-day (x .window) (x .place) (x .it-holds) }
 
   at : (o : Option ℕ) → packetAt minute (getD week day []) ≡ o → At week day minute (givenBy o)
   unfolding givenBy
   at (some p) e =
       let x = packet-some minute (getD week day []) p e in
-      let o : WindowOf week day (x .window) = record { place = x .place; a-window = holding asked-day (x .window) (x .place) (x .it-holds) } in
-      subst (λ (n : ℕ). At week day minute (Number n)) (x .packet-is) (held o (x .it-holds))
+      subst (λ (n : ℕ). At week day minute (Number n)) (x .packet-is) (held (found x) (x .it-holds))
   at none e = not-held (λ w o h. packet-none minute (getD week day []) e w (o .place) h)
 
   gives : {a : Given} → At week day minute a → (o : Option ℕ) → packetAt minute (getD week day []) ≡ o → givenBy o ≡ a
@@ -136,15 +145,9 @@ module _ (week : List (List Window)) (day minute : ℕ) (k : Asked week day minu
   gives (held {w} o h) none e = absurd (packet-none minute (getD week day []) e w (o .place) h)
   gives (held {w} o h) (some p) e =
       let x = packet-some minute (getD week day []) p e in
-      let i = window-in asked-day (x .window) (x .place) (holding asked-day (x .window) (x .place) (x .it-holds)) in
-      let j = window-in asked-day w (o .place) (o .a-window) in
-      let q = one-window (asked-day .ascend) (x .window) w i j (x .it-holds) h in
-      ap Number (sym (x .packet-is) ∙ ap (λ (z : Window). z .packet) q)
+      ap Number (sym (x .packet-is) ∙ ap (λ (z : Window). z .packet) (never-two (k .week-is) (found x) o (x .it-holds) h))
   gives (not-held n) none e = refl
-  gives (not-held n) (some p) e =
-      let x = packet-some minute (getD week day []) p e in
-      let o : WindowOf week day (x .window) = record { place = x .place; a-window = holding asked-day (x .window) (x .place) (x .it-holds) } in
-      absurd (n (x .window) o (x .it-holds))
+  gives (not-held n) (some p) e = let x = packet-some minute (getD week day []) p e in absurd (n (x .window) (found x) (x .it-holds))
 
 -- "the packet number, or none exactly when no window holds that minute" ([6]): each answer is given exactly where the paper gives it
 pub window-exactly : (week : List (List Window)) (day minute : ℕ) (a : Given) → (windowAt week day minute ≡ a) ↔ Answers week day minute (At week day minute) a
@@ -159,17 +162,12 @@ window-refused week day minute = refused-exactly week day minute (packetAt minut
 
 -- "none exactly when no window holds that minute" ([6])
 pub window-none : (week : List (List Window)) (day minute : ℕ) → (windowAt week day minute ≡ Nothing)
-    ↔ (Asked week day minute × ((w : Window) → WindowOf week day w → Holds minute w → ⊥))
-window-none week day minute = (λ e. go (window-exactly week day minute Nothing .0 e) refl, λ x. window-exactly week day minute Nothing .1 (passed (x .0) (not-held (x .1))))
+    ↔ (ValidInput week day minute × ((w : Window) → WindowOf week day w → Holds minute w → ⊥))
+window-none week day minute = (λ e. go (answered week day minute (λ q. zero-one (cc)) (window-exactly week day minute Nothing .0 e)), λ x. window-exactly week day minute Nothing .1 (passed (x .0) (not-held (x .1))))
   where
     nothing : {a : Given} → At week day minute a → a ≡ Nothing → (w : Window) → WindowOf week day w → Holds minute w → ⊥
     nothing (held o h) e = zero-one (cc)
     nothing (not-held n) e = n
 
-    go : {a : Given} → Answers week day minute (At week day minute) a → a ≡ Nothing → Asked week day minute × ((w : Window) → WindowOf week day w → Holds minute w → ⊥)
-    go (passed k x) e = (k, nothing x e)
-    go (refused b) e = zero-one (cc)
-
--- "Windows of a day [..] don't overlap" ([6]): two of one day that hold the same minute are one
-pub never-two : {week : List (List Window)} {d k : ℕ} {v w : Window} → IsWeek week → d < 7 → WindowOf week d v → WindowOf week d w → Holds k v → Holds k w → v ≡ w
-never-two {d = d} {v = v} {w = w} is h o p = let x = day-of is d h in one-window (x .ascend) v w (window-in x v (o .place) (o .a-window)) (window-in x w (p .place) (p .a-window))
+    go : ValidInput week day minute × At week day minute Nothing → ValidInput week day minute × ((w : Window) → WindowOf week day w → Holds minute w → ⊥)
+    go x = (x .0, nothing (x .1) refl)

@@ -24,10 +24,10 @@ unfolding upTo
 by-places [] = refl
 by-places (x ∷ l) = ap (λ (r : List ℕ). x ∷ r) (shifted x l (upTo (length l)) ∙ by-places l)
 
--- 84 numbers are those of their week, day by day and place by place
-pub numbers-in-order : (ns : List ℕ) → length ns ≡ 84 → weekNumbers (weekOf ns) ≡ ns
+-- 84 numbers are those of their week, seven days of four places, in order
+pub numbers-in-order : (ns : List ℕ) → length ns ≡ 84 → (weekNumbers (weekOf ns) ≡ ns) × (map length (weekOf ns) ≡ 4 ∷ 4 ∷ 4 ∷ 4 ∷ 4 ∷ 4 ∷ 4 ∷ [])
 unfolding weekNumbers dayNumbers weekOf dayOf placeOf upTo
-numbers-in-order ns h = ap (λ (n : ℕ). map (λ (k : ℕ). getD ns k 0) (upTo n)) (sym h) ∙ by-places ns
+numbers-in-order ns h = (ap (λ (n : ℕ). map (λ (k : ℕ). getD ns k 0) (upTo n)) (sym h) ∙ by-places ns, refl)
 
 pub lent-week : (answer : List (List Window) → ℕ → ℕ → Given) (ns : List ℕ) (day minute : ℕ) → length ns ≡ 84 → lent answer ns day minute ≡ answer (weekOf ns) day minute
 unfolding lent

@@ -15,9 +15,9 @@ use Rattle.table.specs.Refusal.{givenBy}
 use Rattle.table.proofs.Words.{zero-one}
 use Rattle.week.specs.declared.Window.{Window}
 use Rattle.week.specs.Weeks.{windowAt, weekMinute, until, weekBegins, least, nextWindow}
-use Rattle.week.specs.Claims.{IsWeek, WindowOf, Asked, BrokenInput, Answers, passed, refused, Holds, held, Minutes, this-week, next-week, Next, begins, no-window}
+use Rattle.week.specs.Claims.{IsWeek, WindowOf, ValidInput, BrokenInput, Answers, passed, Holds, held, Minutes, this-week, next-week, Next, begins, no-window}
 use Rattle.week.proofs.Days.{below-seven, first-below}
-use Rattle.week.proofs.Checks.{answers-exactly, refused-exactly}
+use Rattle.week.proofs.Checks.{answers-exactly, refused-exactly, answered}
 use Rattle.week.proofs.Held.{window-exactly}
 use Rattle.week.proofs.Begins.{least-none, least-some, least-is, least-empty, of-week, in-week}
 
@@ -40,7 +40,7 @@ minutes-until {from} {to} {n} (next-week h e) =
     rw (lt-leb from to h) q
 
 -- minutes of the week
-pub here-in-week : {week : List (List Window)} {day minute : ℕ} → Asked week day minute → weekMinute day minute < 10080
+pub here-in-week : {week : List (List Window)} {day minute : ℕ} → ValidInput week day minute → weekMinute day minute < 10080
 unfolding weekMinute
 here-in-week k = omega (arith, k .day-is, k .minute-is)
 
@@ -57,6 +57,13 @@ unfolding weekMinute
 on-minute a b c (this-week q) = (omega arith, omega arith)
 on-minute a b c (next-week l q) = absurd (omega arith)
 
+-- a window, its day, and that n minutes lead from a minute of the week to where it begins
+record LeadsTo (week : List (List Window)) (from n : ℕ) : Type 0 where
+  of : ℕ
+  window : Window
+  stands : WindowOf week of window
+  minutes : Minutes from (weekMinute of (window .first)) n
+
 module _ (week : List (List Window)) (day minute : ℕ) where
   abbrev from : ℕ
   from = weekMinute day minute
@@ -71,14 +78,7 @@ module _ (week : List (List Window)) (day minute : ℕ) where
       let q : until from (weekMinute d (w .first)) ≡ until from (weekMinute (0 + d) (w .first)) = ap (λ (k : ℕ). until from (weekMinute k (w .first))) e in
       Memᴰ·cast (minutes-until m ∙ q) (Memᴰ·map (until from) (in-week week 0 d w o))
 
-  -- a window, its day, and that n minutes lead to where it begins
-  record Distance (n : ℕ) : Type 0 where
-    of : ℕ
-    window : Window
-    stands : WindowOf week of window
-    minutes : Minutes from (weekMinute of (window .first)) n
-
-  of-distances : from < 10080 → {n : ℕ} → List·Memᴰ n distances → Distance n
+  of-distances : from < 10080 → {n : ℕ} → List·Memᴰ n distances → LeadsTo week from n
   of-distances h {n} i =
       let x = Memᴰ·of-map (until from) (weekBegins 0 week) i in
       let b = of-week 0 week (x .0) (x .1) in
@@ -87,7 +87,7 @@ module _ (week : List (List Window)) (day minute : ℕ) where
       let q : until from (weekMinute d (b .begun .first)) ≡ n = ap (until from) (sym (b .minute-is ∙ ap (λ (k : ℕ). weekMinute k (b .begun .first)) e)) ∙ x .2 in
       record { of = d; window = b .begun; stands = b .stands; minutes = subst (Minutes from (weekMinute d (b .begun .first))) q (until-is from (weekMinute d (b .begun .first)) h) }
 
-  module _ (k : Asked week day minute) where
+  module _ (k : ValidInput week day minute) where
     next : (o : Option ℕ) → least distances ≡ o → Next week day minute (givenBy o)
     unfolding givenBy
     next none e = no-window (λ d w o. least-none distances e (until from (weekMinute d (w .first))) (in-distances o (until-is from (weekMinute d (w .first)) (here-in-week k))))
@@ -115,70 +115,59 @@ unfolding nextWindow
 next-refused week day minute = refused-exactly week day minute (least (distances week day minute))
 
 -- "a week without windows has none" ([6]), and no other
-pub next-none : (week : List (List Window)) (day minute : ℕ) → (nextWindow week day minute ≡ Nothing) ↔ (Asked week day minute × ((d : ℕ) (w : Window) → WindowOf week d w → ⊥))
-next-none week day minute = (λ e. go (next-exactly week day minute Nothing .0 e) refl, λ x. next-exactly week day minute Nothing .1 (passed (x .0) (no-window (x .1))))
+pub next-none : (week : List (List Window)) (day minute : ℕ) → (nextWindow week day minute ≡ Nothing) ↔ (ValidInput week day minute × ((d : ℕ) (w : Window) → WindowOf week d w → ⊥))
+next-none week day minute = (λ e. go (answered week day minute (λ q. zero-one (cc)) (next-exactly week day minute Nothing .0 e)), λ x. next-exactly week day minute Nothing .1 (passed (x .0) (no-window (x .1))))
   where
     nothing : {a : Given} → Next week day minute a → a ≡ Nothing → (d : ℕ) (w : Window) → WindowOf week d w → ⊥
     nothing (begins o m all) e = zero-one (cc)
     nothing (no-window n) e = n
 
-    go : {a : Given} → Answers week day minute (Next week day minute) a → a ≡ Nothing → Asked week day minute × ((d : ℕ) (w : Window) → WindowOf week d w → ⊥)
-    go (passed k x) e = (k, nothing x e)
-    go (refused b) e = zero-one (cc)
+    go : ValidInput week day minute × Next week day minute Nothing → ValidInput week day minute × ((d : ℕ) (w : Window) → WindowOf week d w → ⊥)
+    go x = (x .0, nothing (x .1) refl)
 
 module _ (week : List (List Window)) (day minute : ℕ) where
   -- the window to which the minutes lead
-  record Led (n : ℕ) : Type 0 where
-    asked : Asked week day minute
-    of : ℕ
-    window : Window
-    stands : WindowOf week of window
-    minutes : Minutes (weekMinute day minute) (weekMinute of (window .first)) n
-
-  led : {n : ℕ} → nextWindow week day minute ≡ Number n → Led n
-  led {n} e = go (next-exactly week day minute (Number n) .0 e) refl
+  led : {n : ℕ} → nextWindow week day minute ≡ Number n → ValidInput week day minute × LeadsTo week (weekMinute day minute) n
+  led {n} e = go (answered week day minute (λ q. zero-one (cc)) (next-exactly week day minute (Number n) .0 e))
     where
-      to : {a : Given} → Asked week day minute → Next week day minute a → a ≡ Number n → Led n
-      to k (begins {d = d} {n = m} {w = w} o r all) q =
+      to : {a : Given} → Next week day minute a → a ≡ Number n → LeadsTo week (weekMinute day minute) n
+      to (begins {d = d} {n = m} {w = w} o r all) q =
           let p : m ≡ n = cc in
-          record { asked = k; of = d; window = w; stands = o; minutes = subst (Minutes (weekMinute day minute) (weekMinute d (w .first))) p r }
-      to k (no-window x) q = zero-one (cc)
+          record { of = d; window = w; stands = o; minutes = subst (Minutes (weekMinute day minute) (weekMinute d (w .first))) p r }
+      to (no-window x) q = zero-one (cc)
 
-      go : {a : Given} → Answers week day minute (Next week day minute) a → a ≡ Number n → Led n
-      go (passed k x) q = to k x q
-      go (refused b) q = zero-one (cc)
+      go : ValidInput week day minute × Next week day minute (Number n) → ValidInput week day minute × LeadsTo week (weekMinute day minute) n
+      go x = (x .0, to (x .1) refl)
 
   -- the minutes are fewer than a week has
   pub within-a-week : {n : ℕ} → nextWindow week day minute ≡ Number n → n < 10080
-  within-a-week {n} e = go (led e .minutes)
+  within-a-week {n} e = let x = led e in go (begin-in-week (x .0 .week-is) (x .1 .stands)) (x .1 .minutes)
     where
-      x : Led n
-      x = led e
-
-      go : Minutes (weekMinute day minute) (weekMinute (x .of) (x .window .first)) n → n < 10080
-      go (this-week q) = let h = begin-in-week (x .asked .week-is) (x .stands) in omega arith
-      go (next-week l q) = omega arith
+      go : {to : ℕ} → to < 10080 → Minutes (weekMinute day minute) to n → n < 10080
+      go h (this-week q) = omega arith
+      go h (next-week l q) = omega arith
 
   -- "a window beginning now counts as 0" ([6]), and nothing else does
-  pub zero-exactly : (nextWindow week day minute ≡ Number 0) ↔ (Asked week day minute × (w : Window) × WindowOf week day w × (w .first ≡ minute))
-  zero-exactly = (λ e. let x = led e in let p = same (x .asked) (x .stands) (x .minutes) in (x .asked, x .window, p .0, p .1), back)
+  pub zero-exactly : (nextWindow week day minute ≡ Number 0) ↔ (ValidInput week day minute × (w : Window) × WindowOf week day w × (w .first ≡ minute))
+  zero-exactly = (λ e. let x = led e in let p = same (x .0) (x .1 .stands) (x .1 .minutes) in (x .0, x .1 .window, p .0, p .1), back)
     where
-      same : {d : ℕ} {w : Window} → Asked week day minute → WindowOf week d w → Minutes (weekMinute day minute) (weekMinute d (w .first)) 0 → WindowOf week day w × (w .first ≡ minute)
+      same : {d : ℕ} {w : Window} → ValidInput week day minute → WindowOf week d w → Minutes (weekMinute day minute) (weekMinute d (w .first)) 0 → WindowOf week day w × (w .first ≡ minute)
       same {d} {w} k o r =
           let p = on-minute {day = day} {minute = minute} {d = d} {first = w .first} (k .minute-is) (first-below (o .a-window)) (here-in-week k) r in
           (subst (λ (n : ℕ). WindowOf week n w) (p .0) o, p .1)
 
-      back : Asked week day minute × (w : Window) × WindowOf week day w × (w .first ≡ minute) → nextWindow week day minute ≡ Number 0
+      back : ValidInput week day minute × (w : Window) × WindowOf week day w × (w .first ≡ minute) → nextWindow week day minute ≡ Number 0
       back x = next-exactly week day minute (Number 0) .1 (passed (x .0) (begins (x .2) (this-week (begins-now day (x .3))) (λ e k v o r. omega arith)))
 
-  -- after these minutes a window holds the minute, its first
+  -- after these minutes a window begins, and its packet is given at that minute
   pub then-held : {n : ℕ} → nextWindow week day minute ≡ Number n
-      → (d : ℕ) × (m : ℕ) × (p : ℕ) × Minutes (weekMinute day minute) (weekMinute d m) n × (windowAt week d m ≡ Number p)
+      → (d : ℕ) × (w : Window) × WindowOf week d w × Minutes (weekMinute day minute) (weekMinute d (w .first)) n × (windowAt week d (w .first) ≡ Number (w .packet))
   then-held e =
-      let x = led e in
+      let x = led e .1 in
+      let is = led e .0 .week-is in
       let w = x .window in
-      let d = below-seven (x .asked .week-is) (x .stands) in
+      let d = below-seven is (x .stands) in
       let f = first-below (x .stands .a-window) in
-      let k : Asked week (x .of) (w .first) = record { week-is = x .asked .week-is; day-is = omega arith; minute-is = omega arith } in
+      let k : ValidInput week (x .of) (w .first) = record { week-is = is; day-is = omega arith; minute-is = omega arith } in
       let h : Holds (w .first) w = record { from-first = omega arith; below-end = x .stands .a-window .first-below-end } in
-      (x .of, w .first, w .packet, x .minutes, window-exactly week (x .of) (w .first) (Number (w .packet)) .1 (passed k (held (x .stands) h)))
+      (x .of, w, x .stands, x .minutes, window-exactly week (x .of) (w .first) (Number (w .packet)) .1 (passed k (held (x .stands) h)))

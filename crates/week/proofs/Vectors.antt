@@ -96,9 +96,9 @@ refusals = (refl, refl, refl, refl)
 abbrev numbers : List ℕ
 numbers = (360 ∷ 720 ∷ 1 ∷ 720 ∷ 1080 ∷ 28 ∷ []) ++ (replicate 66 0 ++ (1320 ∷ 1440 ∷ 7 ∷ replicate 9 0))
 
-pub lent-week : (weekOf numbers ≡ example) × (length numbers ≡ 84)
+pub lent-example : (weekOf numbers ≡ example) × (length numbers ≡ 84)
 unfolding weekOf dayOf placeOf
-lent-week = (refl, refl)
+lent-example = (refl, refl)
 
 pub other-counts : map (λ (ns : List ℕ). lent windowAt ns 0 0) ([] ∷ replicate 83 0 ∷ replicate 84 0 ∷ replicate 85 0 ∷ []) ≡ Refused Week ∷ Refused Week ∷ Nothing ∷ Refused Week ∷ []
 unfolding lent weekOf dayOf placeOf windowAt checked passes isWeek allDays isDay isDayFrom isWindow isUnused allUnused packetAt holds givenBy

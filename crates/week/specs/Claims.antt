@@ -25,13 +25,17 @@ pub data Ascend : ℕ → List Window → Type 0 where
   no-more : {m : ℕ} → Ascend m []
   one-more : {m : ℕ} {w : Window} {ws : List Window} → IsWindow w → m ≤ w .first → Ascend (w .end) ws → Ascend m (w ∷ ws)
 
--- "at most four windows each"; "An unused place [..] comes after the used ones." ([6]): the four places of a day
+-- "An unused place [..] comes after the used ones." ([6]): places that hold windows from the minute m on, and then are unused
+pub record Filled (m : ℕ) (places : List Window) : Type 0 where
+  pub windows : List Window
+  pub left : ℕ
+  pub in-order : places ≡ windows ++ replicate left unused
+  pub ascend : Ascend m windows
+
+-- "at most four windows each" ([6]): a day has four places
 pub record IsDay (day : List Window) : Type 0 where
   pub four : length day ≡ 4
-  pub windows : List Window
-  pub places-left : ℕ
-  pub places : day ≡ windows ++ replicate places-left unused
-  pub ascend : Ascend 0 windows
+  pub filled : Filled 0 day
 
 -- w is a window of day d
 pub record WindowOf (week : List (List Window)) (d : ℕ) (w : Window) : Type 0 where
@@ -43,8 +47,8 @@ pub record IsWeek (week : List (List Window)) : Type 0 where
   pub seven : length week ≡ 7
   pub each-day : (day : List Window) → List·Memᴰ day week → IsDay day
 
--- "Given day (0 to 6) and minute (0 to 1,439)" ([6]), of a week that is one
-pub record Asked (week : List (List Window)) (day minute : ℕ) : Type 0 where
+-- "Given day (0 to 6) and minute (0 to 1,439)" ([6]), of a week that is not broken
+pub record ValidInput (week : List (List Window)) (day minute : ℕ) : Type 0 where
   pub week-is : IsWeek week
   pub day-is : day ≤ 6
   pub minute-is : minute ≤ 1439
@@ -55,9 +59,9 @@ pub data BrokenInput (week : List (List Window)) (day minute : ℕ) : Type 0 whe
   the-day : 6 < day → BrokenInput week day minute
   the-minute : 1439 < minute → BrokenInput week day minute
 
--- "Checks: 13, a broken week, day or minute, before all else." ([6]): an answer that is that, or one of those that are given otherwise
+-- "Checks: 13, a broken week, day or minute, before all else." ([6]): 13 on broken input, else an answer that `Otherwise` allows
 pub data Answers (week : List (List Window)) (day minute : ℕ) (Otherwise : Given → Type 0) : Given → Type 0 where
-  passed : {a : Given} → Asked week day minute → Otherwise a → Answers week day minute Otherwise a
+  passed : {a : Given} → ValidInput week day minute → Otherwise a → Answers week day minute Otherwise a
   refused : BrokenInput week day minute → Answers week day minute Otherwise (Refused Week)
 
 -- "the first belongs to the window, the end doesn't" ([6]): w holds the minute m

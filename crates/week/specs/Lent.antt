@@ -28,6 +28,6 @@ unfoldable pub weekNumbers : List (List Window) → List ℕ
 weekNumbers [] = []
 weekNumbers (day ∷ days) = dayNumbers day ++ weekNumbers days
 
--- an answer on numbers: those of a week, and any other count of them is a broken week
+-- the answer for a week that is lent as numbers; any count but 84 is a broken week
 unfoldable pub lent : (List (List Window) → ℕ → ℕ → Given) → List ℕ → ℕ → ℕ → Given
 lent answer ns day minute = cond (eqb (length ns) 84) (answer (weekOf ns) day minute) (Refused Week)

@@ -25,7 +25,7 @@ allUnused [] = true
 allUnused (w ∷ ws) = isUnused w && allUnused ws
 
 -- "Windows of a day ascend and don't overlap; the end of one may be the first of the next. An unused place is three zeros and comes after the used ones." ([6]):
--- the places of a day from which the window before ends at the minute m, or all of them with m = 0
+-- the places that follow a window that ends at the minute m; all places of a day with m = 0
 unfoldable pub isDayFrom : ℕ → List Window → Bool
 isDayFrom m [] = true
 isDayFrom m (w ∷ ws) = cond (isUnused w) (allUnused ws) (isWindow w && (leb m (w .first) && isDayFrom (w .end) ws))

@@ -14,6 +14,10 @@ use Rattle.week.proofs.Lists.{from-place}
 use Rattle.week.proofs.Days.{window-is, unused-zeros}
 use Rattle.week_check.specs.Code.{fits}
 
+and-false : (x : Bool) → false ≡ (x && false)
+and-false true = refl
+and-false false = refl
+
 -- after an unused place, no window begins before the end of the day
 unused-from : (ws : List Window) → isDayFrom 1440 ws ≡ allUnused ws
 unfolding isDayFrom allUnused
@@ -72,11 +76,7 @@ module _ (day : List Window) (i m : ℕ) (kept : isDayFrom 0 day ≡ isDayFrom m
 
     pub day-broken : fits m (getD day i z) ≡ false → false ≡ isDay day
     unfolding isDay
-    day-broken e = rw (kept ∙ ap (isDayFrom m) (from-place day i z h) ∙ day-stop m (getD day i z) (drop (i + 1) day) e) (go (eqb (length day) 4))
-      where
-        go : (x : Bool) → false ≡ (x && false)
-        go true = refl
-        go false = refl
+    day-broken e = rw (kept ∙ ap (isDayFrom m) (from-place day i z h) ∙ day-stop m (getD day i z) (drop (i + 1) day) e) (and-false (eqb (length day) 4))
 
   pub day-right : length day ≡ 4 → 4 ≤ i → true ≡ isDay day
   unfolding isDay isDayFrom
@@ -91,11 +91,7 @@ module _ (week : List (List Window)) (d : ℕ) (kept : allDays week ≡ allDays 
 
     pub week-broken : isDay (getD week d z) ≡ false → false ≡ isWeek week
     unfolding isWeek allDays
-    week-broken e = rw (kept ∙ ap allDays (from-place week d z h), e) (go (eqb (length week) 7))
-      where
-        go : (x : Bool) → false ≡ (x && false)
-        go true = refl
-        go false = refl
+    week-broken e = rw (kept ∙ ap allDays (from-place week d z h), e) (and-false (eqb (length week) 7))
 
   pub week-right : length week ≡ 7 → 7 ≤ d → true ≡ isWeek week
   unfolding isWeek allDays

@@ -1,4 +1,4 @@
--- What the check's code takes one place at a time. Assumes nothing: these are definitions.
+-- What the check's code tests, one place at a time. Assumes nothing: these are definitions.
 use Prim.Native.Nat.{ℕ}
 use mathlib.Core.Bool.{Bool, _&&_, _||_}
 use lib.Dec.{leb}

@@ -1,2 +1,2 @@
--- What the check's code takes one place at a time. Assumes nothing: these are definitions.
+-- What the check's code tests, one place at a time. Assumes nothing: these are definitions.
 pub mod Code

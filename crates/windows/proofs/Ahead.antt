@@ -11,7 +11,7 @@ use borrow.Author.Tests.{leb-true, leb-false}
 use Rattle.table.specs.declared.Given.the-variants.{Number, Nothing}
 use Rattle.week.specs.declared.Window.{Window}
 use Rattle.week.specs.Weeks.{weekMinute, nextWindow}
-use Rattle.week.specs.Claims.{IsDay, WindowOf, Asked, passed, Minutes, this-week, next-week, begins, no-window}
+use Rattle.week.specs.Claims.{IsDay, WindowOf, ValidInput, passed, Minutes, this-week, next-week, begins, no-window}
 use Rattle.week.proofs.Days.{day-of, below-seven, first-below}
 use Rattle.week.proofs.Nearest.{until-is, here-in-week, begin-in-week, next-exactly}
 use Rattle.windows.specs.Code.{firstFrom}
@@ -36,13 +36,13 @@ module _ (week : List (List Window)) (day minute : ℕ) where
   pub none-at-first : NoneWithin 0
   none-at-first d m w o r = omega arith
 
-  module _ (asks : Asked week day minute) where
+  module _ (input : ValidInput week day minute) where
     stands : {d m k : ℕ} {w : Window} → WindowOf week d w → Minutes (weekMinute day minute) (weekMinute d (w .first)) m → k * 1440 ≤ m + minute
         → m + minute < (k + 1) * 1440 → OnDay day minute d (w .first) m k
-    stands {d} {m} {k} {w} o r h l = on-day day minute d (w .first) m k (asks .day-is) (asks .minute-is) (first-below (o .a-window)) (below-seven (asks .week-is) o) r h l
+    stands {d} {m} {k} {w} o r h l = on-day day minute d (w .first) m k (input .day-is) (input .minute-is) (first-below (o .a-window)) (below-seven (input .week-is) o) r h l
 
     day-ahead : (k : ℕ) → IsDay (getD week ((day + k) % 7) [])
-    day-ahead k = day-of (asks .week-is) ((day + k) % 7) (omega arith)
+    day-ahead k = day-of (input .week-is) ((day + k) % 7) (omega arith)
 
     module _ (k : ℕ) (p : NoneWithin k) where
       pub none-next : firstFrom (minute - k * 1440) (getD week ((day + k) % 7) []) ≡ none → NoneWithin (k + 1)
@@ -71,8 +71,8 @@ module _ (week : List (List Window)) (day minute : ℕ) where
                 let n = x .minute-is in
                 let c = x .reached in
                 let f = first-below (x .window) in
-                let u = asks .day-is in
-                let v = asks .minute-is in
+                let u = input .day-is in
+                let v = input .minute-is in
                 let r : day * 1440 + minute + ((day + k) % 7 * 1440 + x .begun .first - (day * 1440 + minute)) ≡ (day + k) % 7 * 1440 + x .begun .first = omega arith in
                 let h = p ((day + k) % 7) ((day + k) % 7 * 1440 + x .begun .first - (day * 1440 + minute)) (x .begun) at-first (this-week r) in
                 this-week (omega arith)
@@ -81,8 +81,8 @@ module _ (week : List (List Window)) (day minute : ℕ) where
                 let n = x .minute-is in
                 let c = x .reached in
                 let f = first-below (x .window) in
-                let u = asks .day-is in
-                let v = asks .minute-is in
+                let u = input .day-is in
+                let v = input .minute-is in
                 next-week l (omega arith)
 
         least : (e j : ℕ) (v : Window) → WindowOf week e v → Minutes (weekMinute day minute) (weekMinute e (v .first)) j → k * 1440 + b - minute ≤ j
@@ -102,7 +102,7 @@ module _ (week : List (List Window)) (day minute : ℕ) where
                 omega arith
 
         next-is : Number (k * 1440 + b - minute) ≡ nextWindow week day minute
-        next-is = sym (next-exactly week day minute _ .1 (passed asks (begins at-first leads least)))
+        next-is = sym (next-exactly week day minute _ .1 (passed input (begins at-first leads least)))
 
       pub found : (b : ℕ) → k < 8 → firstFrom (minute - k * 1440) (getD week ((day + k) % 7) []) ≡ some b → Number (k * 1440 + b - minute) ≡ nextWindow week day minute
       found b few e = next-is (first-found (minute - k * 1440) (day-ahead k) b e) few
@@ -116,13 +116,13 @@ module _ (week : List (List Window)) (day minute : ℕ) where
           (omega arith, omega arith)
 
     beyond : {to m : ℕ} → to < 10080 → Minutes (weekMinute day minute) to m → 8 * 1440 ≤ m + minute → ⊥
-    beyond h (this-week q) l = omega (arith, asks .minute-is)
-    beyond h (next-week r q) l = omega (arith, asks .minute-is)
+    beyond h (this-week q) l = omega (arith, input .minute-is)
+    beyond h (next-week r q) l = omega (arith, input .minute-is)
 
     never : NoneWithin 8 → (d : ℕ) (w : Window) → WindowOf week d w → ⊥
     never p d w o =
-        let r = until-is (weekMinute day minute) (weekMinute d (w .first)) (here-in-week asks) in
-        beyond (begin-in-week (asks .week-is) o) r (p d _ w o r)
+        let r = until-is (weekMinute day minute) (weekMinute d (w .first)) (here-in-week input) in
+        beyond (begin-in-week (input .week-is) o) r (p d _ w o r)
 
     pub none-ahead : NoneWithin 8 → Nothing ≡ nextWindow week day minute
-    none-ahead p = sym (next-exactly week day minute _ .1 (passed asks (no-window (never p))))
+    none-ahead p = sym (next-exactly week day minute _ .1 (passed input (no-window (never p))))

@@ -29,14 +29,14 @@ first-window : (m : ℕ) {w : Window} (ws : List Window) → IsWindow w → firs
 unfolding firstFrom
 first-window m {w} ws k = rw (ne-eqb (w .packet) 0 (λ e. let h = k .from-one in omega arith))
 
-first-unused : (m n : ℕ) → firstFrom m (replicate n unused) ≡ none
+unused-none : (m n : ℕ) → firstFrom m (replicate n unused) ≡ none
 unfolding firstFrom
-first-unused m zero = refl
-first-unused m (suc n) = refl
+unused-none m zero = refl
+unused-none m (suc n) = refl
 
 module _ (m : ℕ) where
   first-some : {a : ℕ} {ws : List Window} → Ascend a ws → (n b : ℕ) → firstFrom m (ws ++ replicate n unused) ≡ some b → First m ws b
-  first-some no-more n b e = let q = first-unused m n in zero-one (cc)
+  first-some no-more n b e = let q = unused-none m n in zero-one (cc)
   first-some (one-more {w = w} {ws = ws} k h o) n b e =
       go (first-some o n b) (leb m (w .first)) refl (sym (first-window m (ws ++ replicate n unused) k) ∙ e)
     where
@@ -80,10 +80,10 @@ module _ (m : ℕ) where
   module _ {day : List Window} (x : IsDay day) where
     pub first-found : (b : ℕ) → firstFrom m day ≡ some b → First m day b
     first-found b e =
-        let y = first-some (x .ascend) (x .places-left) b (ap (firstFrom m) (sym (x .places)) ∙ e) in
+        let y = first-some (x .filled .ascend) (x .filled .left) b (ap (firstFrom m) (sym (x .filled .in-order)) ∙ e) in
         record {
           begun = y .begun;
-          place = subst (List·Memᴰ (y .begun)) (sym (x .places)) (Memᴰ·append-left (replicate (x .places-left) unused) (y .place));
+          place = subst (List·Memᴰ (y .begun)) (sym (x .filled .in-order)) (Memᴰ·append-left (replicate (x .filled .left) unused) (y .place));
           window = y .window;
           minute-is = y .minute-is;
           reached = y .reached;
@@ -91,4 +91,4 @@ module _ (m : ℕ) where
         }
 
     pub first-missed : firstFrom m day ≡ none → (v : Window) → List·Memᴰ v day → IsWindow v → m ≤ v .first → ⊥
-    first-missed e v i c g = first-none (x .ascend) (x .places-left) (ap (firstFrom m) (sym (x .places)) ∙ e) v (window-in x v i c) g
+    first-missed e v i c g = first-none (x .filled .ascend) (x .filled .left) (ap (firstFrom m) (sym (x .filled .in-order)) ∙ e) v (window-in x v i c) g

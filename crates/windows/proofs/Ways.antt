@@ -17,9 +17,9 @@ use Rattle.table.proofs.Given as given
 use Rattle.table.proofs.Words.{zero-one}
 use Rattle.week.specs.declared.Window.{Window}
 use Rattle.week.specs.Weeks.{passes, checked, packetAt, windowAt, nextWindow}
-use Rattle.week.specs.Claims.{Asked}
+use Rattle.week.specs.Claims.{ValidInput}
 use Rattle.week.proofs.Lists.{any-default}
-use Rattle.week.proofs.Checks.{asked}
+use Rattle.week.proofs.Checks.{valid}
 use Rattle.windows.specs.Code.{firstFrom}
 use Rattle.windows.proofs.Ahead.{NoneWithin, none-next, found, reaches}
 
@@ -35,27 +35,23 @@ no-number none p t = refl
 no-number (some m) p t = absurd (⊎-elim (λ q. omega arith) (λ q. omega arith) (subst (λ (g : Given). Run.OneOf (1 ∷ 2 ∷ []) (Declared.tagOf given.the-type g)) p t))
 
 module _ (week : List (List Window)) (day minute : ℕ) where
-  pub refused-at : passes week day minute ≡ false → Refused Week ≡ windowAt week day minute
-  unfolding windowAt checked
-  refused-at e = rw e
-
-  pub refused-next : passes week day minute ≡ false → Refused Week ≡ nextWindow week day minute
-  unfolding nextWindow checked
-  refused-next e = rw e
+  pub refused-first : passes week day minute ≡ false → (o : Option ℕ) → Refused Week ≡ checked week day minute o
+  unfolding checked
+  refused-first e o = rw e
 
   module _ (e : passes week day minute ≡ true) where
-    abbrev asks : Asked week day minute
-    asks = asked week day minute e
+    abbrev input : ValidInput week day minute
+    input = valid week day minute e
 
     pub day-below : day < 7
-    day-below = let h = asks .day-is in omega arith
+    day-below = let h = input .day-is in omega arith
 
     pub minute-below : minute < 1440
-    minute-below = let h = asks .minute-is in omega arith
+    minute-below = let h = input .minute-is in omega arith
 
     -- day d of the seven
     same-day : (d : ℕ) → d < 7 → (z : List Window) → getD week d z ≡ getD week d []
-    same-day d h z = let l = asks .week-is .seven in any-default week d z [] (omega arith)
+    same-day d h z = let l = input .week-is .seven in any-default week d z [] (omega arith)
 
     pub at-packet : (z : List Window) {r : Given} → r ≡ givenBy (packetAt minute (getD week day z)) → r ≡ windowAt week day minute
     unfolding windowAt checked
@@ -71,11 +67,11 @@ module _ (week : List (List Window)) (day minute : ℕ) where
       first-is t = sym moved ∙ some-number _ q t
 
       pub found-ahead : {b : ℕ} → k < 8 → r ≡ Number b → Number (k * 1440 + b - minute) ≡ nextWindow week day minute
-      found-ahead {b} h t = found week day minute asks k p b h (first-is t)
+      found-ahead {b} h t = found week day minute input k p b h (first-is t)
 
       -- what is found is on its day, and not past
       pub reached-ahead : {b : ℕ} → r ≡ Number b → (minute ≤ k * 1440 + b) × (b < 1440)
-      reached-ahead {b} t = reaches week day minute asks k p b (first-is t)
+      reached-ahead {b} t = reaches week day minute input k p b (first-is t)
 
       pub none-ahead-of : Run.OneOf (1 ∷ 2 ∷ []) (Declared.tagOf given.the-type r) → NoneWithin week day minute (k + 1)
-      none-ahead-of t = none-next week day minute asks k p (sym moved ∙ no-number _ q t)
+      none-ahead-of t = none-next week day minute input k p (sym moved ∙ no-number _ q t)

@@ -1,6 +1,6 @@
 //! Compares the engine with the second evaluator on packets, run and labelled, and with the model on
 //! packets, on calls of each operation, on texts and their beginnings, on rule texts and on weeks of
-//! windows: answers and every lent word and byte. Each stop while applying is tried again with one more
+//! windows: answers and, but for weeks, every lent word and byte. Each stop while applying is tried again with one more
 //! of what it names. Labelled rules are held to the rules alone too, and rule texts printed from random
 //! expressions to the expressions. Prints each difference, of rule texts and weeks the first few, how
 //! often each refusal was met, how many packets used each rule, what became of labels, how many runs

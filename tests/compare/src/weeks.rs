@@ -91,12 +91,12 @@ fn places(random: &mut Random, windows: usize) -> Places {
         };
         *place = [border[0], border[1], packet as u32];
     }
-    press(random, &mut places[..windows]);
+    to_borders(random, &mut places[..windows]);
     places
 }
 
 /// Makes some windows last one minute, begin where the one before ends, or reach the day's ends.
-fn press(random: &mut Random, windows: &mut [[u32; 3]]) {
+fn to_borders(random: &mut Random, windows: &mut [[u32; 3]]) {
     for window in windows.iter_mut() {
         if random.once_in(4) {
             window[1] = window[0] + 1;

@@ -4,9 +4,10 @@ use mathlib.Core.Path.{_≡_, sym, subst, _∙_}
 use native.Mathlib.Omega.{arith}
 use borrow.Author.Needs.{needs}
 use borrow.Author.Tests.{not-true, not-false}
-use Rattle.week.proofs.Checks.{asked}
+use Rattle.week.specs.Weeks.{nextWindow}
+use Rattle.week.proofs.Checks.{valid}
 use Rattle.windows.proofs.Ahead.{NoneWithin, none-at-first, none-ahead}
-use Rattle.windows.proofs.Ways.{refused-next, day-below, minute-below, found-ahead, reached-ahead, none-ahead-of}
+use Rattle.windows.proofs.Ways.{refused-first, day-below, minute-below, found-ahead, reached-ahead, none-ahead-of}
 use Rattle.windows.proofs.next_window.Statement.{statement}
 use Rattle.windows.proofs.next_window.Tie as tie
 
@@ -20,7 +21,8 @@ passes-requires : tie.Need-passes-requires Inv-loop μ-loop
 passes-requires c κs = search needs
 
 returns : tie.Need-returns Inv-loop μ-loop
-returns c = refused-next _ _ _ (sym (c .before .passes .ensures) ∙ not-true _ (c .if1 .taken))
+unfolding nextWindow
+returns c = refused-first _ _ _ (sym (c .before .passes .ensures) ∙ not-true _ (c .if1 .taken)) _
 
 loop-holds : tie.Need-loop-holds Inv-loop μ-loop
 loop-holds c = (omega arith, omega arith, none-at-first _ _ _)
@@ -85,7 +87,7 @@ returns-3 c =
     let a = q .before .before .before .args in
     let e = sym (q .before .before .passes .ensures) ∙ not-false _ (q .before .if1 .left) in
     let n : q .loop .ahead ≡ 8 = omega arith in
-    none-ahead (a .t1) (a .day) (a .minute) (asked (a .t1) (a .day) (a .minute) e) (subst (NoneWithin (a .t1) (a .day) (a .minute)) n (q .loop .inv .2))
+    none-ahead (a .t1) (a .day) (a .minute) (valid (a .t1) (a .day) (a .minute) e) (subst (NoneWithin (a .t1) (a .day) (a .minute)) n (q .loop .inv .2))
 
 pub next-window-spec : {M : Type 1} → statement M
 next-window-spec =

@@ -3,7 +3,8 @@ use mathlib.Core.Path.{sym, _∙_}
 use native.Mathlib.Omega.{arith}
 use borrow.Author.Needs.{needs}
 use borrow.Author.Tests.{not-true, not-false}
-use Rattle.windows.proofs.Ways.{refused-at, day-below, at-packet}
+use Rattle.week.specs.Weeks.{windowAt}
+use Rattle.windows.proofs.Ways.{refused-first, day-below, at-packet}
 use Rattle.windows.proofs.window_at.Statement.{statement}
 use Rattle.windows.proofs.window_at.Tie as tie
 
@@ -11,7 +12,8 @@ passes-requires : tie.Need-passes-requires
 passes-requires c κs = search needs
 
 returns : tie.Need-returns
-returns c = refused-at _ _ _ (sym (c .before .passes .ensures) ∙ not-true _ (c .if1 .taken))
+unfolding windowAt
+returns c = refused-first _ _ _ (sym (c .before .passes .ensures) ∙ not-true _ (c .if1 .taken)) _
 
 mul-places : tie.Need-mul-places
 mul-places c = let h = day-below _ _ _ (sym (c .before .passes .ensures) ∙ not-false _ (c .if1 .left)) in omega arith
