@@ -1,7 +1,7 @@
 // The numbers of the operations' answers, as the exported functions put them into the caller's array: five, or what the operation says. The answers of
 // Apply and Run, with their uses, are in the crate `counted`. specs/ says in which order they stand.
 ghost use mathlib.Core.Path.{_≡_};
-ghost use Rattle.table.specs.Refusal.{refusedNumbers, madeNumbers, givenNumbers};
+ghost use Rattle.table.specs.Refusal.{refusedNumbers, madeNumbers};
 ghost use Rattle.table.specs.Same.{sameNumbers};
 ghost use Rattle.ternary.specs.Write as writing;
 ghost use Rattle.labelled.specs.Unlabel as unlabelling;
@@ -12,7 +12,6 @@ use grammar::Encoded;
 use labelled::Unlabelled;
 use running::Ran;
 use table::Compared;
-use table::Given;
 use table::Made;
 use table::Refusal;
 use ternary::Written;
@@ -88,16 +87,5 @@ pub fn compared(answer: Compared) -> [usize; 2]
         Compared::Equal => [0, 1],
         Compared::Different => [0, 0],
         Compared::Refused(refusal) => [refusals::number(refusal), 0],
-    }
-}
-
-// The numbers of an answer that gives a number or none.
-pub fn given(answer: Given) -> [usize; 3]
-    ensures { λ r. ⌜ r ≡ givenNumbers answer ⌝ }
-{
-    match answer {
-        Given::Number(n) => [0, 1, n],
-        Given::Nothing => [0, 0, 0],
-        Given::Refused(refusal) => [refusals::number(refusal), 0, 0],
     }
 }

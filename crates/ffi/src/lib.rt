@@ -1,7 +1,7 @@
 // The operations for C and Rust, each under a plain name and on plain numbers and slices; include/lazvorn.h declares them. A slice is two C
 // arguments, a pointer and a length. An answer is an array that the caller lends: five numbers, refusal, node, used, steps and digits; of Apply and Run
-// these and the uses of leaf, stem, drop, spread and triage; or what the operation says. The crates `answers` and `counted` make its numbers.
-// The definitions are in specs/.
+// these and the uses of leaf, stem, drop, spread and triage; or what the operation says. The crates `answers`, `counted`, `stops` and
+// `refusals` make its numbers. The definitions are in specs/.
 ghost use mathlib.Core.Path.{_≡_};
 ghost use mathlib.Core.List.{[]};
 ghost use Rattle.table.specs.Refusal.{madeNumbers, givenNumbers};
@@ -195,7 +195,7 @@ pub extern "C" fn lazvorn_window(week: &[u32], day: usize, minute: usize, answer
     ensures { λ _. ⌜ now (answer .exit) ≡ givenNumbers (lent windowAt (now (week .entry)) day minute) ⌝ }
 {
     let packet = week_numbers::window_at(week, day, minute);
-    *answer = answers::given(packet);
+    *answer = refusals::given(packet);
 }
 
 // Gives the minutes until the next window of a week begins; the week is only read. The answer is three numbers: refusal, 1 if the week has a window, and the
@@ -210,5 +210,5 @@ pub extern "C" fn lazvorn_next_window(
     ensures { λ _. ⌜ now (answer .exit) ≡ givenNumbers (lent nextWindow (now (week .entry)) day minute) ⌝ }
 {
     let minutes = week_numbers::next_window(week, day, minute);
-    *answer = answers::given(minutes);
+    *answer = refusals::given(minutes);
 }

@@ -1,7 +1,8 @@
-// The refusals' numbers in code. The definition is in the crate `table`.
+// The refusals' numbers in code, and those of an answer that gives a number or none. The definitions are in the crate `table`.
+use table::Given;
 use table::Refusal;
 ghost use mathlib.Core.Path.{_≡_};
-ghost use Rattle.table.specs.Refusal.{number};
+ghost use Rattle.table.specs.Refusal.{number, givenNumbers};
 
 // The number of a refusal.
 pub fn number(refusal: Refusal) -> usize
@@ -21,5 +22,16 @@ pub fn number(refusal: Refusal) -> usize
         Refusal::Label => 11,
         Refusal::RuleText => 12,
         Refusal::Week => 13,
+    }
+}
+
+// The numbers of an answer that gives a number or none.
+pub fn given(answer: Given) -> [usize; 3]
+    ensures { λ r. ⌜ r ≡ givenNumbers answer ⌝ }
+{
+    match answer {
+        Given::Number(n) => [0, 1, n],
+        Given::Nothing => [0, 0, 0],
+        Given::Refused(refusal) => [number(refusal), 0, 0],
     }
 }

@@ -21,6 +21,7 @@ use Rattle.week.proofs.Checks.{answers-exactly, refused-exactly, answer
 use Rattle.week.proofs.Held.{window-exactly}
 use Rattle.week.proofs.Begins.{least-none, least-some, least-is, least-empty, of-week, in-week}
 
+-- the minutes that are defined lead there, and no other number does
 pub until-is : (from to : ℕ) → from < 10080 → Minutes from to (until from to)
 unfolding until
 until-is from to h = go (leb from to) refl

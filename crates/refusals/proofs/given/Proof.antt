@@ -1,8 +1,8 @@
--- `answers::given` meets its contract: each case of the answer. Assumes nothing.
+-- `refusals::given` meets its contract: each case of the answer. Assumes nothing.
 use Rattle.table.specs.Refusal.{givenNumbers}
 use borrow.Author.Needs.{needs}
-use Rattle.answers.proofs.given.Statement.{statement}
-use Rattle.answers.proofs.given.Tie as tie
+use Rattle.refusals.proofs.given.Statement.{statement}
+use Rattle.refusals.proofs.given.Tie as tie
 
 enum-known-answer : tie.Need-enum-known-answer
 enum-known-answer c = search needs
