@@ -52,7 +52,7 @@ pub unused-no-window : IsWindow unused → ⊥
 unused-no-window k = omega (arith, k .from-one)
 
 -- a window is no unused place
-pub window-used : {w : Window} → IsWindow w → isUnused w ≡ false
+window-used : {w : Window} → IsWindow w → isUnused w ≡ false
 window-used {w} k = go (isUnused w) refl
   where
     go : (z : Bool) → isUnused w ≡ z → z ≡ false

@@ -20,14 +20,14 @@ use Rattle.week.specs.Claims.{IsWindow, unused, Ascend, no-more, one-mor
 use Rattle.week.proofs.Days.{unused-no-window, day-of, below-seven}
 use Rattle.week.proofs.Checks.{answers-exactly, refused-exactly, answered}
 
--- windows that ascend from the minute m begin there or later
-pub later : {m : ℕ} {ws : List Window} → Ascend m ws → (w : Window) → List·Memᴰ w ws → m ≤ w .first
+-- what stands among windows that ascend from the minute m is a window, and begins there or later
+pub later : {m : ℕ} {ws : List Window} → Ascend m ws → (w : Window) → List·Memᴰ w ws → (m ≤ w .first) × IsWindow w
 later no-more w i = absurd (List·Memᴰ·not-nil i)
-later {m} (one-more {w = v} {ws = vs} k h a) w i = go (λ j. later a w j) (List·Memᴰ·cases-cons i)
+later {m} (one-more {w = v} {ws = vs} k h a) w i = go (later a w) (List·Memᴰ·cases-cons i)
   where
-    go : (List·Memᴰ w vs → v .end ≤ w .first) → (w ≡ v) ⊎ List·Memᴰ w vs → m ≤ w .first
-    go r (inl p) = subst (λ (x : Window). m ≤ x .first) (sym p) h
-    go r (inr j) = let q = r j in omega (arith, k .first-below-end)
+    go : (List·Memᴰ w vs → (v .end ≤ w .first) × IsWindow w) → (w ≡ v) ⊎ List·Memᴰ w vs → (m ≤ w .first) × IsWindow w
+    go r (inl p) = subst (λ (x : Window). (m ≤ x .first) × IsWindow x) (sym p) (h, k)
+    go r (inr j) = let q = r j in (omega (arith, q .0, k .first-below-end), q .1)
 
 -- "Windows of a day [..] don't overlap": two that hold one minute are one
 one-window : {m k : ℕ} {ws : List Window} → Ascend m ws → (v w : Window) → List·Memᴰ v ws → List·Memᴰ w ws → Holds k v → Holds k w → v ≡ w
@@ -36,7 +36,7 @@ one-window {k = k} (one-more {w = u} {ws = us} o h a) v w i j x y =
     go (λ s t. one-window a v w s t x y) (List·Memᴰ·cases-cons i) (List·Memᴰ·cases-cons j)
   where
     apart : (s t : Window) → s ≡ u → List·Memᴰ t us → Holds k s → Holds k t → ⊥
-    apart s t p q b c = let l = later a t q in let e : s .end ≡ u .end = ap (λ (z : Window). z .end) p in omega (arith, b .below-end, c .from-first)
+    apart s t p q b c = let l = later a t q .0 in let e : s .end ≡ u .end = ap (λ (z : Window). z .end) p in omega (arith, b .below-end, c .from-first)
 
     go : (List·Memᴰ v us → List·Memᴰ w us → v ≡ w) → (v ≡ u) ⊎ List·Memᴰ v us → (w ≡ u) ⊎ List·Memᴰ w us → v ≡ w
     go r (inl p) (inl q) = p ∙ sym q
@@ -67,19 +67,11 @@ window-in x w i k = go (placed x w i)
     go (inl j) = j
     go (inr p) = absurd (unused-no-window (subst IsWindow p k))
 
-each : {m : ℕ} {ws : List Window} → Ascend m ws → (w : Window) → List·Memᴰ w ws → IsWindow w
-each no-more w i = absurd (List·Memᴰ·not-nil i)
-each (one-more {w = v} {ws = vs} k h a) w i = go (each a w) (List·Memᴰ·cases-cons i)
-  where
-    go : (List·Memᴰ w vs → IsWindow w) → (w ≡ v) ⊎ List·Memᴰ w vs → IsWindow w
-    go r (inl p) = subst IsWindow (sym p) k
-    go r (inr j) = r j
-
 holding : {day : List Window} → IsDay day → {k : ℕ} (w : Window) → List·Memᴰ w day → Holds k w → IsWindow w
 holding x {k} w i h = go (placed x w i)
   where
     go : List·Memᴰ w (x .filled .windows) ⊎ (w ≡ unused) → IsWindow w
-    go (inl j) = each (x .filled .ascend) w j
+    go (inl j) = later (x .filled .ascend) w j .1
     go (inr p) = let e : w .end ≡ 0 = ap (λ (z : Window). z .end) p in absurd (omega (arith, h .below-end))
 
 holds-is : (k : ℕ) (w : Window) → holds k w ≡ true → Holds k w

@@ -68,11 +68,11 @@ day-stop m w ws = go (isUnused w) (isWindow w) (leb m (w .first))
 -- the places from i on, after a window that ends at the minute m, tell whether the day is right
 module _ (day : List Window) (i m : ℕ) (kept : isDayFrom 0 day ≡ isDayFrom m (drop i day)) where
   module _ (z : Window) (h : i < length day) where
-    pub after-unused : fits m (getD day i z) ≡ true → getD day i z .packet ≡ 0 → isDayFrom 0 day ≡ isDayFrom 1440 (drop (i + 1) day)
-    after-unused f e = kept ∙ ap (isDayFrom m) (from-place day i z h) ∙ step-unused m (getD day i z) (drop (i + 1) day) f e
+    pub after-unused : {n : ℕ} → fits m (getD day i z) ≡ true → getD day i z .packet ≡ 0 → n ≡ 1440 → isDayFrom 0 day ≡ isDayFrom n (drop (i + 1) day)
+    after-unused f e q = rw q (kept ∙ ap (isDayFrom m) (from-place day i z h) ∙ step-unused m (getD day i z) (drop (i + 1) day) f e)
 
-    pub after-window : fits m (getD day i z) ≡ true → (getD day i z .packet ≡ 0 → ⊥) → isDayFrom 0 day ≡ isDayFrom (getD day i z .end) (drop (i + 1) day)
-    after-window f n = kept ∙ ap (isDayFrom m) (from-place day i z h) ∙ step-window m (getD day i z) (drop (i + 1) day) f n
+    pub after-window : {n : ℕ} → fits m (getD day i z) ≡ true → (getD day i z .packet ≡ 0 → ⊥) → n ≡ getD day i z .end → isDayFrom 0 day ≡ isDayFrom n (drop (i + 1) day)
+    after-window f e q = rw q (kept ∙ ap (isDayFrom m) (from-place day i z h) ∙ step-window m (getD day i z) (drop (i + 1) day) f e)
 
     pub day-broken : fits m (getD day i z) ≡ false → false ≡ isDay day
     unfolding isDay

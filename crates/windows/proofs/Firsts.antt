@@ -42,7 +42,7 @@ module _ (m : ℕ) where
     where
       here : w .first ≡ b → (v : Window) → (v ≡ w) ⊎ List·Memᴰ v ws → b ≤ v .first
       here q v (inl p) = let x : v .first ≡ w .first = ap (λ (u : Window). u .first) p in omega arith
-      here q v (inr j) = let x = later o v j in let y = k .first-below-end in omega arith
+      here q v (inr j) = let x = later o v j .0 in let y = k .first-below-end in omega arith
 
       onward : First m ws b → w .first < m → (v : Window) → (v ≡ w) ⊎ List·Memᴰ v ws → IsWindow v → m ≤ v .first → b ≤ v .first
       onward x l v (inl p) c g = let y : v .first ≡ w .first = ap (λ (u : Window). u .first) p in absurd (omega arith)

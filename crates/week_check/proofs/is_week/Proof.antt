@@ -16,45 +16,36 @@ Inv-loop week d₀ d = (d ≤ 7) × (allDays week ≡ allDays (drop d week))
 abbrev μ-loop : tie.MeasureT-loop
 μ-loop week d₀ d = 7 - d
 
--- src/lib.rt:51:5
 loop-holds : tie.Need-loop-holds Inv-loop μ-loop
 loop-holds c = (omega arith, refl)
 
--- src/lib.rt:52:19
 mul-day : tie.Need-mul-day Inv-loop μ-loop
 mul-day c = omega arith
 
--- src/lib.rt:52:19
 array-copy-out-day : tie.Need-array-copy-out-day Inv-loop μ-loop
 array-copy-out-day c = omega arith
 
--- src/lib.rt:53:13
 is-day-requires : tie.Need-is-day-requires Inv-loop μ-loop
 is-day-requires c κs = search needs
 
--- src/lib.rt:54:13
 returns : tie.Need-returns Inv-loop μ-loop
 returns c =
     let q = c .before .before .before .before in
     let l : length (q .before .args .t1) ≡ 7 = q .before .good .0 .1 .0 .1 in
     week-broken (q .before .args .t1) (q .loop .d) (q .loop .inv .1) _ (omega arith) (sym (c .before .is-day .ensures) ∙ not-true _ (c .if1 .taken))
 
--- src/lib.rt:56:9
 add-d : tie.Need-add-d Inv-loop μ-loop
 add-d c = omega arith
 
--- src/lib.rt:51:5
 loop-less : tie.Need-loop-less Inv-loop μ-loop
 loop-less c = omega arith
 
--- src/lib.rt:51:5
 loop-again : tie.Need-loop-again Inv-loop μ-loop
 loop-again c =
     let q = c .before .before .before .before in
     let l : length (q .before .args .t1) ≡ 7 = q .before .good .0 .1 .0 .1 in
     (omega arith, after-day (q .before .args .t1) (q .loop .d) (q .loop .inv .1) _ (omega arith) (sym (c .before .is-day .ensures) ∙ not-false _ (c .if1 .left)))
 
--- src/lib.rt:47:1
 returns-2 : tie.Need-returns-2 Inv-loop μ-loop
 returns-2 c =
     let q = c .before in

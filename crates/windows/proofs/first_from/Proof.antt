@@ -15,19 +15,15 @@ Inv-loop from day i₀ i = (i ≤ 4) × (firstFrom from day ≡ firstFrom from (
 abbrev μ-loop : tie.MeasureT-loop
 μ-loop from day i₀ i = 4 - i
 
--- src/lib.rt:44:5
 loop-holds : tie.Need-loop-holds Inv-loop μ-loop
 loop-holds c = (omega arith, refl)
 
--- src/lib.rt:45:21
 mul-place : tie.Need-mul-place Inv-loop μ-loop
 mul-place c = omega arith
 
--- src/lib.rt:45:21
 array-copy-out-place : tie.Need-array-copy-out-place Inv-loop μ-loop
 array-copy-out-place c = omega arith
 
--- src/lib.rt:47:13
 returns : tie.Need-returns Inv-loop μ-loop
 unfolding givenBy
 returns c =
@@ -36,15 +32,12 @@ returns c =
     let l : length (a .t1) ≡ 4 = q .before .good .0 .1 .0 .1 in
     sym (ap givenBy (q .loop .inv .1 ∙ first-unused (a .from) (a .t1) (q .loop .i) _ (omega arith) (c .if1 .taken)))
 
--- src/lib.rt:49:20
 cast-if2 : tie.Need-cast-if2 Inv-loop μ-loop
 cast-if2 c = omega arith
 
--- src/lib.rt:50:34
 cast-t11 : tie.Need-cast-t11 Inv-loop μ-loop
 cast-t11 c = omega arith
 
--- src/lib.rt:50:13
 returns-2 : tie.Need-returns-2 Inv-loop μ-loop
 unfolding givenBy
 returns-2 c =
@@ -53,15 +46,12 @@ returns-2 c =
     let l : length (a .t1) ≡ 4 = q .before .good .0 .1 .0 .1 in
     sym (ap givenBy (q .loop .inv .1 ∙ first-here (a .from) (a .t1) (q .loop .i) _ (omega arith) (c .before .before .before .if1 .left) (c .before .if2 .taken)))
 
--- src/lib.rt:52:9
 add-i : tie.Need-add-i Inv-loop μ-loop
 add-i c = omega arith
 
--- src/lib.rt:44:5
 loop-less : tie.Need-loop-less Inv-loop μ-loop
 loop-less c = omega arith
 
--- src/lib.rt:44:5
 loop-again : tie.Need-loop-again Inv-loop μ-loop
 loop-again c =
     let q = c .before .before .before .before .before .before in
@@ -69,7 +59,6 @@ loop-again c =
     let l : length (a .t1) ≡ 4 = q .before .good .0 .1 .0 .1 in
     (omega arith, q .loop .inv .1 ∙ first-later (a .from) (a .t1) (q .loop .i) _ (omega arith) (c .before .before .if1 .left) (c .if2 .left))
 
--- src/lib.rt:40:1
 returns-3 : tie.Need-returns-3 Inv-loop μ-loop
 unfolding givenBy
 returns-3 c =

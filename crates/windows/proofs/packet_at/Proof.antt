@@ -16,31 +16,24 @@ Inv-loop minute day i₀ i = (i ≤ 4) × (packetAt minute day ≡ packetAt minu
 abbrev μ-loop : tie.MeasureT-loop
 μ-loop minute day i₀ i = 4 - i
 
--- src/lib.rt:16:5
 loop-holds : tie.Need-loop-holds Inv-loop μ-loop
 loop-holds c = (omega arith, refl)
 
--- src/lib.rt:17:21
 mul-place : tie.Need-mul-place Inv-loop μ-loop
 mul-place c = omega arith
 
--- src/lib.rt:17:21
 array-copy-out-place : tie.Need-array-copy-out-place Inv-loop μ-loop
 array-copy-out-place c = omega arith
 
--- src/lib.rt:18:12
 cast-if1 : tie.Need-cast-if1 Inv-loop μ-loop
 cast-if1 c = omega arith
 
--- src/lib.rt:19:25
 cast-if2 : tie.Need-cast-if2 Inv-loop μ-loop
 cast-if2 c = omega arith
 
--- src/lib.rt:20:38
 cast-t13 : tie.Need-cast-t13 Inv-loop μ-loop
 cast-t13 c = omega arith
 
--- src/lib.rt:20:17
 returns : tie.Need-returns Inv-loop μ-loop
 unfolding givenBy
 returns c =
@@ -49,15 +42,12 @@ returns c =
     let l : length (a .t1) ≡ 4 = q .before .good .0 .1 .0 .1 in
     sym (ap givenBy (q .loop .inv .1 ∙ packet-here (a .minute) (a .t1) (q .loop .i) _ (omega arith) (c .before .before .before .if1 .taken) (c .before .if2 .taken)))
 
--- src/lib.rt:23:9
 add-i : tie.Need-add-i Inv-loop μ-loop
 add-i c = omega arith
 
--- src/lib.rt:16:5
 loop-less : tie.Need-loop-less Inv-loop μ-loop
 loop-less c = omega arith
 
--- src/lib.rt:16:5
 loop-again : tie.Need-loop-again Inv-loop μ-loop
 loop-again c =
     let q = c .before .before .before .before in
@@ -66,7 +56,6 @@ loop-again c =
     let h : q .loop .i < length (a .t1) = omega arith in
     (omega arith, q .loop .inv .1 ∙ ⊎-elim (λ t. packet-after (a .minute) (a .t1) (q .loop .i) _ h (t .0 .taken) (t .2 .left)) (λ t. packet-before (a .minute) (a .t1) (q .loop .i) _ h (t .left)) (c .if1 .came))
 
--- src/lib.rt:12:1
 returns-2 : tie.Need-returns-2 Inv-loop μ-loop
 unfolding givenBy
 returns-2 c =
