@@ -17,6 +17,7 @@ ghost use Rattle.labelled.specs.Unlabel as unlabelling;
 ghost use Rattle.running.specs.Run as running;
 ghost use Rattle.stopping.specs.Stopped as stopping;
 ghost use Rattle.grammar.specs.Outcome as grammar;
+ghost use Rattle.loads.specs.Loads as loads;
 ghost use Rattle.week.specs.Weeks.{windowAt, nextWindow};
 ghost use Rattle.week.specs.Lent.{lent};
 ghost use Rattle.ffi.specs.Boundary.{numbered, counted};
@@ -161,6 +162,21 @@ pub extern "C" fn lazvorn_rule_text(text: &[u8], out: &mut [u8], answer: &mut [u
 {
     let read = rule_reader::rule_text(text, out);
     *answer = answers::encoded(read);
+}
+
+// Writes the load of a seed, so many digits of ternary text. The answer is two numbers: refusal, and digits written.
+#[no_mangle]
+pub extern "C" fn lazvorn_generate(
+    seed: u32,
+    digits: usize,
+    out: &mut [u8],
+    answer: &mut [usize; 2],
+)
+    ensures { λ _. ⌜ wholeOut (now (answer .exit)) [] [] (now (out .exit))
+        ≡ answered loads.generatedNumbers (loads.generate seed digits (now (out .entry))) ⌝ }
+{
+    let written = generator::generate(seed, digits, out);
+    *answer = answers::generated(written);
 }
 
 // Gives the nodes of rule and label out of the labelled tree of a node; the table is only read. The answer is six numbers: refusal, the rule's node,

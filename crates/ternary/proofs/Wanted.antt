@@ -1,6 +1,6 @@
 -- The number of trees wanted: it is 0 exactly where a text is whole, it is the number of trees pending from there on, and it is the fewest digits
 -- that complete a beginning. Assumes nothing.
-use Prim.Native.Nat.{ℕ, zero, suc, _+_, _≤_}
+use Prim.Native.Nat.{ℕ, zero, suc, _+_, _-_, _≤_}
 use mathlib.Core.Path.{_≡_, refl, sym, ap, _∙_}
 use mathlib.Core.Bool.{Bool, true, false, cond}
 use mathlib.Core.List.{List, [], _∷_, _++_, append-assoc}
@@ -9,6 +9,7 @@ use mathlib.Core.Option.{Option, none, some}
 use native.Mathlib.Omega.{arith}
 use lib.ListN.{length, replicate, length-replicate}
 use lib.Dec.{eqb}
+use borrow.Author.Tests.{eq-eqb, ne-eqb}
 use Rattle.calculus.specs.Tree.{Tree, leaf, stem, fork}
 use Rattle.table.proofs.Words.{zero-one}
 use Rattle.ternary.specs.Text.{text, texts, takeLeaf, takeStem, takeFork, takeDigit, pending, single, treeOf, manyPending, mostPending}
@@ -16,10 +17,19 @@ use Rattle.ternary.specs.Wanted.{wantedAfter, wantedFrom, wanted, manyWa
 use Rattle.ternary.proofs.OneText.{pending-texts, whole-pending}
 
 -- what cannot become whole cannot with more digits
-none-wanted : (l : List ℕ) → wantedFrom none l ≡ none
+pub none-wanted : (l : List ℕ) → wantedFrom none l ≡ none
 unfolding wantedFrom wantedAfter
 none-wanted [] = refl
 none-wanted (c ∷ l) = none-wanted l
+
+-- a digit's node is one of the trees wanted, and wants its own branches
+pub after-digit : (c n b : ℕ) → (n ≡ 0 → ⊥) → c ≡ 48 + b → b ≤ 2 → some (n - 1 + b) ≡ wantedAfter c (some n)
+unfolding wantedAfter
+after-digit c zero b z e h = absurd (z refl)
+after-digit c (suc n) zero z e h = rw (eq-eqb c 48 (omega arith)) (ap some (omega arith))
+after-digit c (suc n) (suc zero) z e h = rw (ne-eqb c 48 (λ q. omega arith), eq-eqb c 49 (omega arith)) (ap some (omega arith))
+after-digit c (suc n) (suc (suc zero)) z e h = rw (ne-eqb c 48 (λ q. omega arith), ne-eqb c 49 (λ q. omega arith), eq-eqb c 50 (omega arith)) (ap some (omega arith))
+after-digit c (suc n) (suc (suc (suc b))) z e h = absurd (omega arith)
 
 -- the number wanted after more digits goes by the number before them
 pub wanted-append : (o : Option ℕ) (l r : List ℕ) → wantedFrom o (l ++ r) ≡ wantedFrom (wantedFrom o l) r
@@ -130,7 +140,7 @@ unfolding wanted wantedFrom
 wanted-ends l c r e = wanted-broken (l ++ (c ∷ r)) (λ q. zero-one (cc (wanted-append (some 1) l (c ∷ r), none-wanted r)))
 
 -- so many leaves leave no tree wanted
-leaves-wanted : (n : ℕ) → wantedFrom (some n) (replicate n 48) ≡ some 0
+pub leaves-wanted : (n : ℕ) → wantedFrom (some n) (replicate n 48) ≡ some 0
 unfolding wantedFrom wantedAfter
 leaves-wanted zero = refl
 leaves-wanted (suc n) = leaves-wanted n

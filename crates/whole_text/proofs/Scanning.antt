@@ -1,5 +1,5 @@
 -- Laws of the scan of a text, one for each way that its code goes. Assumes nothing.
-use Prim.Native.Nat.{ℕ, zero, suc, _+_, _-_, _≤_, _<_, max}
+use Prim.Native.Nat.{ℕ, zero, suc, _+_, _≤_, _<_, max}
 use mathlib.Core.Path.{_≡_, refl, sym, ap, _∙_}
 use mathlib.Core.List.{List, [], _∷_, _++_}
 use mathlib.Core.Option.{none, some}
@@ -7,21 +7,12 @@ use native.Mathlib.Numerals.{add-one}
 use native.Mathlib.Omega.{arith}
 use lib.ListN.{length, getD, take, drop, take-append-drop}
 use lib.Seq.{take-suc, take-length, length-take-le, drop-cons, drop-length}
-use borrow.Author.Tests.{eq-eqb, ne-eqb}
+use borrow.Author.Tests.{ne-eqb}
 use Rattle.ternary.specs.Text.{treeOf}
 use Rattle.ternary.specs.Wanted.{wantedAfter, wantedFrom, wanted, manyWanted, mostWanted, Fewest}
 use Rattle.ternary.proofs.Wanted.{wanted-append, wanted-whole, wanted-broken, wanted-ends, most-wanted, digits-within, fewest-exact}
 use Rattle.whole_text.specs.declared.Scanned.the-variants.{Whole}
 use Rattle.whole_text.specs.Code.{ScanSays}
-
--- a digit's node is one of the trees wanted, and wants its own branches
-pub after-digit : (c n b : ℕ) → (n ≡ 0 → ⊥) → c ≡ 48 + b → b ≤ 2 → some (n - 1 + b) ≡ wantedAfter c (some n)
-unfolding wantedAfter
-after-digit c zero b z e h = absurd (z refl)
-after-digit c (suc n) zero z e h = rw (eq-eqb c 48 (omega arith)) (ap some (omega arith))
-after-digit c (suc n) (suc zero) z e h = rw (ne-eqb c 48 (λ q. omega arith), eq-eqb c 49 (omega arith)) (ap some (omega arith))
-after-digit c (suc n) (suc (suc zero)) z e h = rw (ne-eqb c 48 (λ q. omega arith), ne-eqb c 49 (λ q. omega arith), eq-eqb c 50 (omega arith)) (ap some (omega arith))
-after-digit c (suc n) (suc (suc (suc b))) z e h = absurd (omega arith)
 
 -- any other byte is no digit
 pub after-other : (c n : ℕ) → (c ≡ 48 → ⊥) → (c ≡ 49 → ⊥) → (c ≡ 50 → ⊥) → none ≡ wantedAfter c (some n)

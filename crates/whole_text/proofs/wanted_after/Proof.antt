@@ -4,8 +4,9 @@ use mathlib.Core.Logic.{⊎-elim}
 use mathlib.Core.Path.{_≡_}
 use native.Mathlib.Omega.{arith}
 use Rattle.ternary.specs.Wanted.{wantedAfter}
+use Rattle.ternary.proofs.Wanted.{after-digit}
 use Rattle.whole_text.specs.Code.{wantedOf}
-use Rattle.whole_text.proofs.Scanning.{after-digit, after-other}
+use Rattle.whole_text.proofs.Scanning.{after-other}
 use borrow.Author.Needs.{needs}
 use Rattle.whole_text.proofs.wanted_after.Statement.{statement}
 use Rattle.whole_text.proofs.wanted_after.Tie as tie

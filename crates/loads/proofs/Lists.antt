@@ -1,0 +1,99 @@
+-- Laws of lists of digits: members, those for which a test holds, lists that ascend. Assumes nothing.
+use Prim.Native.Nat.{ℕ, zero, suc, _+_, _%_, _≤_, _<_}
+use mathlib.Core.Path.{_≡_, refl, sym, ap, _∙_}
+use mathlib.Core.Bool.{Bool, true, false, cond}
+use mathlib.Core.List.{List, [], _∷_, List·Memᴰ, List·Memᴰ·head, List·Memᴰ·tail, List·Memᴰ·not-nil, List·Memᴰ·cases-cons}
+use mathlib.Core.Logic.{_⊎_, inl, inr}
+use native.Mathlib.Omega.{arith}
+use native.Mathlib.Nat.{mod-lt}
+use lib.ListN.{length, getD}
+use Rattle.table.proofs.Words.{told-apart}
+use Rattle.loads.specs.Loads.{those, pick}
+use Rattle.loads.specs.Claims.{Ascend}
+use Rattle.loads.specs.Claims.Ascend.{no-more, one-more}
+
+-- a list that has a member is not empty
+pub some-member : (c : ℕ) (cs : List ℕ) → List·Memᴰ c cs → 0 < length cs
+some-member c [] i = absurd (List·Memᴰ·not-nil i)
+some-member c (d ∷ cs) i = omega arith
+
+-- what stands at a place within a list's length is a member of it
+at-place : (cs : List ℕ) (i : ℕ) → i < length cs → List·Memᴰ (getD cs i 0) cs
+at-place [] i h = absurd (omega arith)
+at-place (c ∷ cs) zero h = List·Memᴰ·head refl
+at-place (c ∷ cs) (suc i) h = List·Memᴰ·tail (at-place cs i (omega arith))
+
+-- and so is what is picked
+pub pick-member : (cs : List ℕ) (draw : ℕ) → 0 < length cs → List·Memᴰ (pick cs draw) cs
+unfolding pick
+pick-member cs draw h = at-place cs (draw % length cs) (mod-lt draw h)
+
+module _ (test : ℕ → Bool) where
+  -- the members for which a test holds are members, and it holds for them
+  pub those-hold : (cs : List ℕ) (c : ℕ) → List·Memᴰ c (those test cs) → List·Memᴰ c cs × (test c ≡ true)
+  unfolding those
+  those-hold [] c i = absurd (List·Memᴰ·not-nil i)
+  those-hold (d ∷ cs) c i = go (test d) refl i (those-hold cs c)
+    where
+      first : test d ≡ true → (List·Memᴰ c (those test cs) → List·Memᴰ c cs × (test c ≡ true)) → (c ≡ d) ⊎ List·Memᴰ c (those test cs) → List·Memᴰ c (d ∷ cs) × (test c ≡ true)
+      first q f (inl e) = (List·Memᴰ·head e, ap test e ∙ q)
+      first q f (inr j) = (List·Memᴰ·tail (f j .0), f j .1)
+
+      go : (z : Bool) → test d ≡ z → List·Memᴰ c (cond z (d ∷ those test cs) (those test cs)) → (List·Memᴰ c (those test cs) → List·Memᴰ c cs × (test c ≡ true)) → List·Memᴰ c (d ∷ cs) × (test c ≡ true)
+      go true q i f = first q f (List·Memᴰ·cases-cons i)
+      go false q i f = (List·Memᴰ·tail (f i .0), f i .1)
+
+  -- and each member for which it holds is one of them
+  pub hold-those : (cs : List ℕ) (c : ℕ) → List·Memᴰ c cs → test c ≡ true → List·Memᴰ c (those test cs)
+  unfolding those
+  hold-those [] c i e = absurd (List·Memᴰ·not-nil i)
+  hold-those (d ∷ cs) c i e = go (test d) refl (List·Memᴰ·cases-cons i) (λ j. hold-those cs c j e)
+    where
+      go : (z : Bool) → test d ≡ z → (c ≡ d) ⊎ List·Memᴰ c cs → (List·Memᴰ c cs → List·Memᴰ c (those test cs)) → List·Memᴰ c (cond z (d ∷ those test cs) (those test cs))
+      go true q (inl p) f = List·Memᴰ·head p
+      go true q (inr j) f = List·Memᴰ·tail (f j)
+      go false q (inl p) f = told-apart e (ap test p ∙ q)
+      go false q (inr j) f = f j
+
+  -- of a list that ascends they ascend
+  pub those-ascend : {m : ℕ} {cs : List ℕ} → Ascend m cs → Ascend m (those test cs)
+  unfolding those
+  those-ascend no-more = no-more
+  those-ascend {m} (one-more {c = c} {cs = cs} h a) = go (test c) (those-ascend a)
+    where
+      below : {ds : List ℕ} → Ascend (c + 1) ds → Ascend m ds
+      below no-more = no-more
+      below (one-more {c = d} k b) = one-more (let e : m ≤ d = omega arith in e) b
+
+      go : (z : Bool) → Ascend (c + 1) (those test cs) → Ascend m (cond z (c ∷ those test cs) (those test cs))
+      go true b = one-more h b
+      go false b = below b
+
+-- a member of a list that ascends from m on is at least m
+later : {m : ℕ} {cs : List ℕ} → Ascend m cs → (c : ℕ) → List·Memᴰ c cs → m ≤ c
+later no-more c i = absurd (List·Memᴰ·not-nil i)
+later {m} (one-more {c = d} {cs = ds} h a) c i = go (later a c) (List·Memᴰ·cases-cons i)
+  where
+    go : (List·Memᴰ c ds → d + 1 ≤ c) → (c ≡ d) ⊎ List·Memᴰ c ds → m ≤ c
+    go f (inl e) = omega arith
+    go f (inr j) = omega (arith, f j)
+
+-- lists that ascend and have the same members are one
+pub one-list : {m k : ℕ} {cs ds : List ℕ} → Ascend m cs → Ascend k ds → ((x : ℕ) → List·Memᴰ x cs → List·Memᴰ x ds) → ((x : ℕ) → List·Memᴰ x ds → List·Memᴰ x cs) → cs ≡ ds
+one-list no-more no-more f g = refl
+one-list no-more (one-more {c = d} h b) f g = absurd (List·Memᴰ·not-nil (g d (List·Memᴰ·head refl)))
+one-list (one-more {c = c} h a) no-more f g = absurd (List·Memᴰ·not-nil (f c (List·Memᴰ·head refl)))
+one-list (one-more {c = c} {cs = cs} h a) (one-more {c = d} {cs = ds} k b) f g =
+    let e : c ≡ d = first (List·Memᴰ·cases-cons (f c (List·Memᴰ·head refl))) (List·Memᴰ·cases-cons (g d (List·Memᴰ·head refl))) in
+    let t : cs ≡ ds = one-list a b (λ x i. rest d a (omega arith) x i (List·Memᴰ·cases-cons (f x (List·Memᴰ·tail i)))) (λ x i. rest c b (omega arith) x i (List·Memᴰ·cases-cons (g x (List·Memᴰ·tail i)))) in
+    cc
+  where
+    first : (c ≡ d) ⊎ List·Memᴰ c ds → (d ≡ c) ⊎ List·Memᴰ d cs → c ≡ d
+    first (inl e) y = e
+    first (inr i) (inl e) = sym e
+    first (inr i) (inr j) = absurd (omega (arith, later b c i, later a d j))
+
+    -- a later member is not the first of the other list
+    rest : (y : ℕ) {q : ℕ} {xs ys : List ℕ} → Ascend q xs → y < q → (x : ℕ) → List·Memᴰ x xs → (x ≡ y) ⊎ List·Memᴰ x ys → List·Memᴰ x ys
+    rest y a h x i (inl e) = absurd (omega (arith, later a x i))
+    rest y a h x i (inr j) = j
