@@ -16,8 +16,8 @@
  *   up to 131,072         up to 65,536    400 KiB
  * lazvorn_translate, lazvorn_run, lazvorn_stopped and lazvorn_label_packet go into a rule as deep
  * as it nests, and need up to 1 MiB more for the deepest, some 512 bytes for each application
- * within another. lazvorn_rule_text, lazvorn_window and lazvorn_next_window, which have no table,
- * need none of this.
+ * within another. lazvorn_rule_text, lazvorn_generate, lazvorn_window and lazvorn_next_window,
+ * which have no table, need none of this.
  *
  * What a caller owes is what C itself asks: a pointer reaches as many elements as its length says,
  * and what the call writes (the table but for lazvorn_write, lazvorn_unlabel and lazvorn_same, the
@@ -31,6 +31,7 @@
  *   lazvorn_unlabel writes six: the first five of the ten, and the label's node;
  *   lazvorn_same writes two: refusal, and 1 if the trees are equal, else 0;
  *   lazvorn_rule_text writes two: refusal, and bytes written;
+ *   lazvorn_generate writes two: refusal, and digits written;
  *   lazvorn_window and lazvorn_next_window write three: refusal, 1 or 0 whether there is a window,
  *     and the packet number or the minutes, 0 where there is none;
  *   every other call writes the first five of the ten.
@@ -106,6 +107,12 @@ enum {
 
 /* How many numbers lazvorn_window and lazvorn_next_window write, and how many a week has. */
 enum { LAZVORN_WINDOW = 3, LAZVORN_WEEK_NUMBERS = 84 };
+
+/* In lazvorn_generate's answer, the digits written to out. */
+enum { LAZVORN_GENERATED = 1 };
+
+/* The most digits that a load has. */
+enum { LAZVORN_LOAD_DIGITS = 4095 };
 
 /* The rule that was wanted. */
 enum {
@@ -286,6 +293,26 @@ void lazvorn_rule_text(
     uint8_t *out,        /* the out bytes; 4,096 are enough for any rule, and those past it stay */
     size_t out_len,      /* how many bytes */
     size_t answer[2]);   /* refusal, and bytes written */
+
+/*
+ * Makes a load from a seed: the text of a whole tree of so many digits, the same for the same seed
+ * and count. A state of 32 bits begins as the seed. For each digit, left to right, it becomes
+ * state * 1,664,525 + 1,013,904,223, kept to 32 bits, and the draw is the state divided by 65,536,
+ * rounded down. A digit is allowed if the text can still become a whole tree of exactly so many
+ * digits. The draw's remainder by the number of digits allowed there is the place, from 0, of the
+ * one that is taken, in ascending order; also where only one is allowed there is a draw.
+ * Gives the refusal and how many digits were written. A count outside 1 to 4,095 gives an empty
+ * load: no refusal and no digits, and out, whatever it is, stays as found. Else refusal 10, which
+ * leaves out as found. lazvorn_read takes each load that is not empty, given a table that passes 1
+ * and 2, nodes and frames: a node for each digit and a frame for each two of them, rounded up, are
+ * enough.
+ */
+void lazvorn_generate(
+    uint32_t seed,     /* the seed, any number of 32 bits */
+    size_t digits,     /* how many digits: 1 to 4,095, or the load is empty */
+    uint8_t *out,      /* the out bytes; those past the load stay */
+    size_t out_len,    /* how many bytes, of which there is no most */
+    size_t answer[2]); /* refusal, and digits written */
 
 /*
  * Gives the packet number of the window that holds a minute, or none where no window does. Refusal

@@ -1,17 +1,17 @@
 -- The digits allowed follow one another, from the fewest branches to the most. Assumes nothing.
 use Prim.Native.Nat.{ℕ, zero, suc, _+_, _-_, _%_, _≤_, _<_}
 use mathlib.Core.Path.{_≡_, refl, sym, ap, subst, _∙_}
-use mathlib.Core.Bool.{Bool, true, false, cond}
+use mathlib.Core.Bool.{Bool, true, cond}
 use mathlib.Core.List.{List, [], _∷_}
 use mathlib.Core.Logic.{_⊎_, inl, inr}
 use mathlib.Core.Option.{some}
 use native.Mathlib.Omega.{arith}
 use native.Mathlib.Nat.{mod-lt}
 use lib.ListN.{length, getD}
-use lib.Dec.{leb, eqb}
+use lib.Dec.{leb}
 use borrow.Author.Tests.{leb-true, le-leb, lt-leb, eqb-true, eq-eqb, ne-eqb}
 use Rattle.ternary.specs.Wanted.{wantedAfter}
-use Rattle.loads.specs.Loads.{canEnd, those, allowed, pick}
+use Rattle.loads.specs.Loads.{canEnd, those, threeDigits, allowed, pick}
 
 -- k numbers from a on
 unfoldable row : ℕ → ℕ → List ℕ
@@ -38,7 +38,7 @@ abbrev listed : Bool → Bool → Bool → List ℕ
 listed x y z = cond x (48 ∷ cond y (49 ∷ cond z (50 ∷ []) []) (cond z (50 ∷ []) [])) (cond y (49 ∷ cond z (50 ∷ []) []) (cond z (50 ∷ []) []))
 
 by-tests : (left n : ℕ) {x y z : Bool} → canEnd left (some n) ≡ x → leb (suc n) left ≡ y → leb (suc (suc n)) left ≡ z → allowed left (some (suc n)) ≡ listed x y z
-unfolding allowed those wantedAfter canEnd
+unfolding allowed those threeDigits wantedAfter canEnd
 by-tests left n p q r = rw (p, q, r)
 
 -- the digit with r branches is the one taken
@@ -68,27 +68,27 @@ last-taken left w draw z e = go w (wanted-between left w e)
     go (suc (suc w)) h = absurd (omega (arith, h .1))
 
 -- the fewest branches where digits are left: none, unless a leaf would end the text
-abbrev pub Fewest : ℕ → ℕ → Type 0
-Fewest w a = ((w ≡ 1) × (a ≡ 1)) ⊎ ((w ≡ 1 → ⊥) × (a ≡ 0))
+abbrev pub FewestBranches : ℕ → ℕ → Type 0
+FewestBranches w a = ((w ≡ 1) × (a ≡ 1)) ⊎ ((w ≡ 1 → ⊥) × (a ≡ 0))
 
 -- the most: as many as leave a digit for each tree, and no more than a fork's
-abbrev pub Most : ℕ → ℕ → ℕ → Type 0
-Most left w b = ((left + 1 - w < 2) × (b ≡ left + 1 - w)) ⊎ ((2 ≤ left + 1 - w) × (b ≡ 2))
+abbrev pub MostBranches : ℕ → ℕ → ℕ → Type 0
+MostBranches left w b = ((left + 1 - w < 2) × (b ≡ left + 1 - w)) ⊎ ((2 ≤ left + 1 - w) × (b ≡ 2))
 
-pub fewest-most : (left w a b : ℕ) → (left ≡ 0 → ⊥) → canEnd (left + 1) (some w) ≡ true → Fewest w a → Most left w b → (a ≤ b) × (b ≤ 2)
+pub fewest-most : (left w a b : ℕ) → (left ≡ 0 → ⊥) → canEnd (left + 1) (some w) ≡ true → FewestBranches w a → MostBranches left w b → (a ≤ b) × (b ≤ 2)
 fewest-most left w a b z e f m = go f m (wanted-between left w e)
   where
-    go : Fewest w a → Most left w b → (1 ≤ w) × (w ≤ left + 1) → (a ≤ b) × (b ≤ 2)
+    go : FewestBranches w a → MostBranches left w b → (1 ≤ w) × (w ≤ left + 1) → (a ≤ b) × (b ≤ 2)
     go (inl (p, q)) (inl (r, s)) h = (omega arith, omega arith)
     go (inl (p, q)) (inr (r, s)) h = (omega arith, omega arith)
     go (inr (p, q)) (inl (r, s)) h = (omega arith, omega arith)
     go (inr (p, q)) (inr (r, s)) h = (omega arith, omega arith)
 
-pub between-taken : (left w draw a b : ℕ) → (left ≡ 0 → ⊥) → canEnd (left + 1) (some w) ≡ true → Fewest w a → Most left w b → Taken left w draw (a + draw % (b - a + 1))
+pub between-taken : (left w draw a b : ℕ) → (left ≡ 0 → ⊥) → canEnd (left + 1) (some w) ≡ true → FewestBranches w a → MostBranches left w b → Taken left w draw (a + draw % (b - a + 1))
 unfolding canEnd row
 between-taken left w draw a b z e f m = go w b (wanted-between left w e) f m
   where
-    go : (w b : ℕ) → (1 ≤ w) × (w ≤ left + 1) → Fewest w a → Most left w b → Taken left w draw (a + draw % (b - a + 1))
+    go : (w b : ℕ) → (1 ≤ w) × (w ≤ left + 1) → FewestBranches w a → MostBranches left w b → Taken left w draw (a + draw % (b - a + 1))
     go zero b h f m = absurd (omega (arith, h .0))
     go (suc zero) b h (inr (p, q)) m = absurd (p refl)
     go (suc zero) b h (inl (p, q)) (inl (r, s)) =

@@ -7,7 +7,7 @@ ghost use mathlib.Core.Option.{some};
 ghost use Prim.Native.Nat.{_+_, _≤_, _<_};
 ghost use lib.ListN.{length, drop};
 ghost use Rattle.table.specs.Outcome.{wholeOut};
-ghost use Rattle.loads.specs.Loads.{nextState, canEnd, allowed, pick, digitsFrom, start, generate};
+ghost use Rattle.loads.specs.Loads.{nextState, canEnd, allowed, pick, digitsFrom, firstDrawing, generate};
 use table::Refusal;
 use ternary::Written;
 
@@ -37,7 +37,7 @@ fn branches(draw: usize, wanted: usize, left: usize) -> usize
 // Writes a load of n digits to the first n out bytes.
 fn write_load(seed: usize, n: usize, out: &mut [u8])
     requires { ⌜ (seed < 4294967296) × (1 ≤ n) × (n ≤ length (now out)) × (n < 4294967296) ⌝ }
-    ensures { λ _. ⌜ now (out .exit) ≡ digitsFrom n (start seed) ++ drop n (now (out .entry)) ⌝ }
+    ensures { λ _. ⌜ now (out .exit) ≡ digitsFrom n (firstDrawing seed) ++ drop n (now (out .entry)) ⌝ }
 {
     let mut state = seed;
     let mut wanted = 1;

@@ -7,15 +7,14 @@ use mathlib.Core.Logic.{_↔_}
 use mathlib.Core.Option.{Option, none, some}
 use native.Mathlib.Omega.{arith}
 use lib.ListN.{length, replicate, length-append, length-replicate}
-use lib.Dec.{leb, eqb}
+use lib.Dec.{eqb}
 use borrow.Author.Tests.{leb-true, eqb-true, le-leb, eq-eqb}
 use Rattle.table.proofs.Words.{zero-one}
 use Rattle.ternary.specs.Wanted.{wantedAfter, wantedFrom, wanted}
 use Rattle.ternary.proofs.Wanted.{none-wanted, leaves-wanted, wanted-append, wanted-whole, digits-within}
-use Rattle.loads.specs.Loads.{canEnd, allowed, pick}
-use Rattle.loads.specs.Claims.{Allowed, AllowedAre}
-use Rattle.loads.specs.Claims.Ascend.{no-more, one-more}
-use Rattle.loads.proofs.Lists.{some-member, pick-member, those-hold, hold-those, those-ascend}
+use Rattle.loads.specs.Loads.{canEnd, threeDigits, allowed, pick}
+use Rattle.loads.specs.Claims.{Allowed, Ascend, AllowedAre}
+use Rattle.loads.proofs.Lists.{some-member, pick-member, those-hold, hold-those, those-ascend, three-ascend}
 
 -- stems leave the number of trees wanted
 stems-wanted : (k n : ℕ) (l : List ℕ) → wantedFrom (some (suc n)) (replicate k 49 ++ l) ≡ wantedFrom (some (suc n)) l
@@ -49,14 +48,19 @@ ends left (some (suc n)) (r, k, e) = le-leb (suc n) left (omega (arith, digits-w
 pub can-end-exactly : (left : ℕ) (o : Option ℕ) → (canEnd left o ≡ true) ↔ UsedUp left o
 can-end-exactly left o = (used-up left o, ends left o)
 
+-- the three digits ascend
+digits-ascend : Ascend 0 threeDigits
+unfolding threeDigits
+digits-ascend = three-ascend threeDigits refl (omega arith) (omega arith)
+
 -- only a digit leaves a number wanted
-one-digit : (c left : ℕ) (o : Option ℕ) → canEnd left (wantedAfter c o) ≡ true → List·Memᴰ c (48 ∷ 49 ∷ 50 ∷ [])
-unfolding canEnd wantedAfter
+one-digit : (c left : ℕ) (o : Option ℕ) → canEnd left (wantedAfter c o) ≡ true → List·Memᴰ c threeDigits
+unfolding threeDigits canEnd wantedAfter
 one-digit c left none e = zero-one (cc)
 one-digit c left (some zero) e = zero-one (cc)
 one-digit c left (some (suc n)) e = go (eqb c 48) (eqb c 49) (eqb c 50) refl refl refl e
   where
-    go : (x y z : Bool) → eqb c 48 ≡ x → eqb c 49 ≡ y → eqb c 50 ≡ z → canEnd left (cond x (some n) (cond y (some (suc n)) (cond z (some (suc (suc n))) none))) ≡ true → List·Memᴰ c (48 ∷ 49 ∷ 50 ∷ [])
+    go : (x y z : Bool) → eqb c 48 ≡ x → eqb c 49 ≡ y → eqb c 50 ≡ z → canEnd left (cond x (some n) (cond y (some (suc n)) (cond z (some (suc (suc n))) none))) ≡ true → List·Memᴰ c threeDigits
     go true y z p q r e = List·Memᴰ·head (eqb-true c 48 p)
     go false true z p q r e = List·Memᴰ·tail (List·Memᴰ·head (eqb-true c 49 q))
     go false false true p q r e = List·Memᴰ·tail (List·Memᴰ·tail (List·Memᴰ·head (eqb-true c 50 r)))
@@ -68,11 +72,11 @@ module _ (left : ℕ) (o : Option ℕ) where
 
   allowed-test : (c : ℕ) → List·Memᴰ c (allowed left o) → test c ≡ true
   unfolding allowed
-  allowed-test c i = those-hold test (48 ∷ 49 ∷ 50 ∷ []) c i .1
+  allowed-test c i = those-hold test threeDigits c i .1
 
   test-allowed : (c : ℕ) → test c ≡ true → List·Memᴰ c (allowed left o)
   unfolding allowed
-  test-allowed c e = hold-those test (48 ∷ 49 ∷ 50 ∷ []) c (one-digit c left o e) e
+  test-allowed c e = hold-those test threeDigits c (one-digit c left o e) e
 
   -- Where the trees wanted can be used up by one digit and those left after it, a digit is allowed,
   pub some-allowed : canEnd (suc left) o ≡ true → 0 < length (allowed left o)
@@ -109,5 +113,5 @@ module _ (n : ℕ) (l : List ℕ) (left : ℕ) (h : length l + suc left ≡ n) w
   allowed-are =
       record {
         exactly = allowed-exactly;
-        ascending = those-ascend (test left (wanted l)) (one-more (omega arith) (one-more (omega arith) (one-more (omega arith) no-more)));
+        ascending = those-ascend (test left (wanted l)) digits-ascend;
       }

@@ -69,6 +69,18 @@ module _ (test : ℕ → Bool) where
       go true b = one-more h b
       go false b = below b
 
+-- three numbers of which each is below the next ascend
+pub three-ascend : (l : List ℕ) → length l ≡ 3 → getD l 0 0 < getD l 1 0 → getD l 1 0 < getD l 2 0 → Ascend 0 l
+three-ascend [] k p q = absurd (omega arith)
+three-ascend (a ∷ []) k p q = absurd (omega arith)
+three-ascend (a ∷ (b ∷ [])) k p q = absurd (omega arith)
+three-ascend (a ∷ (b ∷ (c ∷ []))) k p q =
+    let x : a + 1 ≤ b = omega arith in
+    let y : b + 1 ≤ c = omega arith in
+    let z : 0 ≤ a = omega arith in
+    one-more z (one-more x (one-more y no-more))
+three-ascend (a ∷ (b ∷ (c ∷ (d ∷ l)))) k p q = absurd (omega arith)
+
 -- a member of a list that ascends from m on is at least m
 later : {m : ℕ} {cs : List ℕ} → Ascend m cs → (c : ℕ) → List·Memᴰ c cs → m ≤ c
 later no-more c i = absurd (List·Memᴰ·not-nil i)

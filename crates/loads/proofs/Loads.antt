@@ -15,50 +15,50 @@ use Rattle.table.proofs.Words.{and-left, and-right, told-apart}
 use Rattle.ternary.specs.Text.{treeOf}
 use Rattle.ternary.specs.Wanted.{wantedAfter, wantedFrom, wanted}
 use Rattle.ternary.proofs.Wanted.{wanted-append, wanted-whole}
-use Rattle.loads.specs.Loads.{nextState, drawn, canEnd, allowed, pick, Place, digitAt, after, digitsFrom, start, isCount, load}
+use Rattle.loads.specs.Loads.{nextState, drawn, canEnd, allowed, pick, Drawing, digitAt, nextDrawing, digitsFrom, firstDrawing, isCount, load}
 use Rattle.loads.specs.Claims.{AllowedAre, Takes, stateAfter, Draws, IsCount, IsLoad}
 use Rattle.loads.specs.Claims.IsLoad.{outside, inside}
 use Rattle.loads.proofs.Lists.{one-list}
 use Rattle.loads.proofs.Allowed.{can-end-exactly, some-allowed, pick-ends, allowed-are}
 
--- "draws once a digit" ([10]): the state is advanced once at every place
-pub one-draw : (left : ℕ) (p : Place) → after left p .state ≡ nextState (p .state)
-unfolding after
+-- "draws once a digit" ([10]): the state is advanced once for every digit
+pub one-draw : (left : ℕ) (p : Drawing) → nextDrawing left p .state ≡ nextState (p .state)
+unfolding nextDrawing
 one-draw left p = refl
 
-from-many : (n : ℕ) (p : Place) → length (digitsFrom n p) ≡ n
+from-many : (n : ℕ) (p : Drawing) → length (digitsFrom n p) ≡ n
 unfolding digitsFrom
 from-many zero p = refl
-from-many (suc n) p = ap suc (from-many n (after n p))
+from-many (suc n) p = ap suc (from-many n (nextDrawing n p))
 
 -- where so many digits can use up the trees wanted, they still can after the digit that is taken
-pub after-ends : (n : ℕ) (p : Place) → canEnd (suc n) (p .wanted) ≡ true → canEnd n (after n p .wanted) ≡ true
-unfolding after digitAt
+pub after-ends : (n : ℕ) (p : Drawing) → canEnd (suc n) (p .wanted) ≡ true → canEnd n (nextDrawing n p .wanted) ≡ true
+unfolding nextDrawing digitAt
 after-ends n p h = pick-ends n (p .wanted) (drawn (p .state)) h
 
 -- and the digits of a load do use them up
-from-ends : (n : ℕ) (p : Place) → canEnd n (p .wanted) ≡ true → wantedFrom (p .wanted) (digitsFrom n p) ≡ some 0
-unfolding digitsFrom wantedFrom after
+from-ends : (n : ℕ) (p : Drawing) → canEnd n (p .wanted) ≡ true → wantedFrom (p .wanted) (digitsFrom n p) ≡ some 0
+unfolding digitsFrom wantedFrom nextDrawing
 from-ends zero p h = go (can-end-exactly zero (p .wanted) .0 h)
   where
     go : (r : List ℕ) × (length r ≡ 0) × (wantedFrom (p .wanted) r ≡ some 0) → p .wanted ≡ some 0
     go ([], k, e) = e
     go (c ∷ r, k, e) = absurd (omega arith)
-from-ends (suc n) p h = from-ends n (after n p) (after-ends n p h)
+from-ends (suc n) p h = from-ends n (nextDrawing n p) (after-ends n p h)
 
 -- one tree can be used up by any number of digits from 1 on
-pub start-ends : (seed n : ℕ) → 1 ≤ n → canEnd n (start seed .wanted) ≡ true
-unfolding canEnd start
+pub start-ends : (seed n : ℕ) → 1 ≤ n → canEnd n (firstDrawing seed .wanted) ≡ true
+unfolding canEnd firstDrawing
 start-ends seed n h = le-leb 1 n h
 
--- the number wanted at the place after a digit is the one after the text with it
-wanted-next : (l : List ℕ) (left : ℕ) (p : Place) → wanted l ≡ p .wanted → wanted (l ++ (digitAt left p ∷ [])) ≡ after left p .wanted
-unfolding wanted wantedFrom after
+-- the number that the next digit goes by is the one after the text with this digit
+wanted-next : (l : List ℕ) (left : ℕ) (p : Drawing) → wanted l ≡ p .wanted → wanted (l ++ (digitAt left p ∷ [])) ≡ nextDrawing left p .wanted
+unfolding wanted wantedFrom nextDrawing
 wanted-next l left p e = wanted-append (some 1) l (digitAt left p ∷ []) ∙ ap (wantedAfter (digitAt left p)) e
 
 module _ (n : ℕ) where
-  -- the digits from a place on are taken one by one
-  from-takes : (left : ℕ) (p : Place) (l : List ℕ) → wanted l ≡ p .wanted → length l + left ≡ n → canEnd left (p .wanted) ≡ true
+  -- the digits after a beginning are taken one by one
+  from-takes : (left : ℕ) (p : Drawing) (l : List ℕ) → wanted l ≡ p .wanted → length l + left ≡ n → canEnd left (p .wanted) ≡ true
       → (i : ℕ) → i < left → Takes n (l ++ take i (digitsFrom left p)) (drawn (stateAfter i (p .state))) (getD (digitsFrom left p) i 0)
   unfolding digitsFrom digitAt stateAfter pick
   from-takes zero p l e k h i b = absurd (omega arith)
@@ -71,10 +71,10 @@ module _ (n : ℕ) where
         taken = refl;
       })
   from-takes (suc left) p l e k h (suc i) b =
-      subst (λ (m : List ℕ). Takes n m (drawn (stateAfter i (nextState (p .state)))) (getD (digitsFrom left (after left p)) i 0))
-      (append-assoc l (digitAt left p ∷ []) (take i (digitsFrom left (after left p))))
-      (subst (λ (s : ℕ). Takes n ((l ++ (digitAt left p ∷ [])) ++ take i (digitsFrom left (after left p))) (drawn (stateAfter i s)) (getD (digitsFrom left (after left p)) i 0)) (one-draw left p)
-      (from-takes left (after left p) (l ++ (digitAt left p ∷ [])) (wanted-next l left p e) (omega (arith, length-append l (digitAt left p ∷ []))) (after-ends left p h) i (omega arith)))
+      subst (λ (m : List ℕ). Takes n m (drawn (stateAfter i (nextState (p .state)))) (getD (digitsFrom left (nextDrawing left p)) i 0))
+      (append-assoc l (digitAt left p ∷ []) (take i (digitsFrom left (nextDrawing left p))))
+      (subst (λ (s : ℕ). Takes n ((l ++ (digitAt left p ∷ [])) ++ take i (digitsFrom left (nextDrawing left p))) (drawn (stateAfter i s)) (getD (digitsFrom left (nextDrawing left p)) i 0)) (one-draw left p)
+      (from-takes left (nextDrawing left p) (l ++ (digitAt left p ∷ [])) (wanted-next l left p e) (omega (arith, length-append l (digitAt left p ∷ []))) (after-ends left p h) i (omega arith)))
 
   -- of what is drawn after a beginning one digit is taken
   one-digit : {l : List ℕ} {draw c d : ℕ} → Takes n l draw c → Takes n l draw d → c ≡ d
@@ -84,9 +84,9 @@ module _ (n : ℕ) where
       (λ z i. x .allowed-are .exactly z .1 (y .allowed-are .exactly z .0 i)) in
       x .taken ∙ ap (λ (cs : List ℕ). getD cs (draw % length cs) 0) e ∙ sym (y .taken)
 
-from-draws : (seed n : ℕ) → 1 ≤ n → Draws seed n (digitsFrom n (start seed))
-unfolding start wanted wantedFrom
-from-draws seed n h = record { many = from-many n (start seed); each = from-takes n n (start seed) [] refl (omega arith) (start-ends seed n h) }
+from-draws : (seed n : ℕ) → 1 ≤ n → Draws seed n (digitsFrom n (firstDrawing seed))
+unfolding firstDrawing wanted wantedFrom
+from-draws seed n h = record { many = from-many n (firstDrawing seed); each = from-takes n n (firstDrawing seed) [] refl (omega arith) (start-ends seed n h) }
 
 -- a seed and a number of digits draw one text
 one-drawing : (seed n : ℕ) (l m : List ℕ) → Draws seed n l → Draws seed n m → l ≡ m
@@ -125,7 +125,7 @@ count-case n = go (isCount n) refl
 
 module _ (seed n : ℕ) where
   -- the load by its two cases
-  pub load-inside : IsCount n → load seed n ≡ digitsFrom n (start seed)
+  pub load-inside : IsCount n → load seed n ≡ digitsFrom n (firstDrawing seed)
   unfolding load
   load-inside k = rw (is-count n k)
 
@@ -133,13 +133,13 @@ module _ (seed n : ℕ) where
   unfolding load
   load-outside h = go (isCount n) refl
     where
-      go : (z : Bool) → isCount n ≡ z → cond z (digitsFrom n (start seed)) [] ≡ []
+      go : (z : Bool) → isCount n ≡ z → cond z (digitsFrom n (firstDrawing seed)) [] ≡ []
       go true p = absurd (h (count-is n p))
       go false p = refl
 
   -- "A load of n digits" ([10]) has n,
   pub load-many : IsCount n → length (load seed n) ≡ n
-  load-many k = ap length (load-inside k) ∙ from-many n (start seed)
+  load-many k = ap length (load-inside k) ∙ from-many n (firstDrawing seed)
 
   -- and is empty for no other n than those outside.
   pub load-empty : (load seed n ≡ []) ↔ (IsCount n → ⊥)
@@ -147,8 +147,8 @@ module _ (seed n : ℕ) where
 
   -- "Every nonempty load is a whole text" ([10])
   pub load-whole : IsCount n → (t : Tree) × (treeOf (load seed n) ≡ some t)
-  unfolding wanted start
-  load-whole k = wanted-whole (load seed n) .0 (ap (wantedFrom (some 1)) (load-inside k) ∙ from-ends n (start seed) (start-ends seed n (k .from-one)))
+  unfolding wanted firstDrawing
+  load-whole k = wanted-whole (load seed n) .0 (ap (wantedFrom (some 1)) (load-inside k) ∙ from-ends n (firstDrawing seed) (start-ends seed n (k .from-one)))
 
   pub load-draws : IsCount n → Draws seed n (load seed n)
   load-draws k = subst (Draws seed n) (sym (load-inside k)) (from-draws seed n (k .from-one))

@@ -1,4 +1,4 @@
--- Loads ([10]): what is drawn from a seed, the digits allowed at a place, the digits of a load, and the whole outcome of generating one. Assumes nothing:
+-- Loads ([10]): what is drawn from a seed, the digits allowed, the digits of a load, and the whole outcome of generating one. Assumes nothing:
 -- these are definitions.
 use Prim.Native.Nat.{ℕ, zero, suc, _+_, _*_, _/_, _%_}
 use mathlib.Core.Bool.{Bool, false, cond, _&&_}
@@ -33,37 +33,41 @@ unfoldable pub those : (ℕ → Bool) → List ℕ → List ℕ
 those test [] = []
 those test (c ∷ cs) = cond (test c) (c ∷ those test cs) (those test cs)
 
+-- the digits of a leaf, a stem and a fork, in ascending order
+unfoldable pub threeDigits : List ℕ
+threeDigits = 48 ∷ 49 ∷ 50 ∷ []
+
 -- "A digit is allowed if the text can still become a whole tree of exactly n digits." ([10]): the digits allowed, "in ascending order", where o is the number
 -- of trees wanted and so many digits are left after this one. The theorem `allowed-exactly` says that they are these.
 unfoldable pub allowed : ℕ → Option ℕ → List ℕ
-allowed left o = those (λ (c : ℕ). canEnd left (wantedAfter c o)) (48 ∷ 49 ∷ 50 ∷ [])
+allowed left o = those (λ (c : ℕ). canEnd left (wantedAfter c o)) threeDigits
 
 -- "takes the remainder by the number of digits allowed there" ([10]): of the digits cs the one at that place, counting from 0
 unfoldable pub pick : List ℕ → ℕ → ℕ
 pick cs draw = getD cs (draw % length cs) 0
 
--- what a digit goes by: the state before its draw, and the number of trees wanted
-pub record Place : Type 0 where
+-- what a digit goes by: the state before its draw, and the number of trees wanted before it
+pub record Drawing : Type 0 where
   pub state : ℕ
   pub wanted : Option ℕ
 
--- the digit at a place, where so many are left after it
-unfoldable pub digitAt : ℕ → Place → ℕ
+-- the digit, where so many are left after it
+unfoldable pub digitAt : ℕ → Drawing → ℕ
 digitAt left p = pick (allowed left (p .wanted)) (drawn (p .state))
 
--- "draws once a digit" ([10]): the place after it. A draw is made for each digit, also where only one is allowed; no load shows that, since from there on
+-- "draws once a digit" ([10]): what the next digit goes by. A draw is made for each digit, also where only one is allowed; no load shows that, since from there on
 -- only one is.
-unfoldable pub after : ℕ → Place → Place
-after left p = record { state = nextState (p .state); wanted = wantedAfter (digitAt left p) (p .wanted) }
+unfoldable pub nextDrawing : ℕ → Drawing → Drawing
+nextDrawing left p = record { state = nextState (p .state); wanted = wantedAfter (digitAt left p) (p .wanted) }
 
--- the digits from a place on, "left to right" ([10])
-unfoldable pub digitsFrom : ℕ → Place → List ℕ
+-- so many digits, "left to right" ([10])
+unfoldable pub digitsFrom : ℕ → Drawing → List ℕ
 digitsFrom zero p = []
-digitsFrom (suc left) p = digitAt left p ∷ digitsFrom left (after left p)
+digitsFrom (suc left) p = digitAt left p ∷ digitsFrom left (nextDrawing left p)
 
--- "From a 32-bit seed" ([10]): the place of the first digit. A text is one tree's, so that one is wanted.
-unfoldable pub start : ℕ → Place
-start seed = record { state = seed; wanted = some 1 }
+-- "From a 32-bit seed" ([10]): what the first digit goes by. A text is one tree's, so that one is wanted.
+unfoldable pub firstDrawing : ℕ → Drawing
+firstDrawing seed = record { state = seed; wanted = some 1 }
 
 -- "n from 1 to 4,095" ([10])
 unfoldable pub isCount : ℕ → Bool
@@ -71,15 +75,15 @@ isCount n = leb 1 n && leb n 4095
 
 -- "A load of n digits, n from 1 to 4,095 [..] For any n outside, the load is empty" ([10]). A load is the paper's term.
 unfoldable pub load : ℕ → ℕ → List ℕ
-load seed n = cond (isCount n) (digitsFrom n (start seed)) []
+load seed n = cond (isCount n) (digitsFrom n (firstDrawing seed)) []
 
 -- "an output shorter than n gives 10 and stays as it was" ([10]), where the load is not empty: the load l, or 10. "out bytes past what is written stay" ([3]).
-unfoldable pub intoOut : List ℕ → List ℕ → Outcome Written
-intoOut l out = cond (leb (length l) (length out)) (wholeOut (Digits (length l)) [] [] (l ++ drop (length l) out)) (wholeOut (Refused Out) [] [] out)
+unfoldable pub loadInto : List ℕ → List ℕ → Outcome Written
+loadInto l out = cond (leb (length l) (length out)) (wholeOut (Digits (length l)) [] [] (l ++ drop (length l) out)) (wholeOut (Refused Out) [] [] out)
 
 -- generate the load of a seed into the out bytes
 unfoldable pub generate : ℕ → ℕ → List ℕ → Outcome Written
-generate seed n out = intoOut (load seed n) out
+generate seed n out = loadInto (load seed n) out
 
 -- the numbers of the answer: the refusal or 0, and how many digits were written; "0 for [..] digits" on a refusal (document 01, Operations)
 unfoldable pub generatedNumbers : Written → List ℕ

@@ -7,6 +7,10 @@
 //!
 //! `bench --beside OTHER/target/staticlib/libffi.a`
 //!
+//! Or measures what the digits of loads cost, and prints that alone:
+//!
+//! `bench --loads`
+//!
 //! Or measures what making each tree once costs: Apply beside the C loop, how the time of a step grows with
 //! the nodes, nodes that meet in one place of the index, and, if it is given, another build:
 //!
@@ -16,6 +20,7 @@ mod beside;
 mod c;
 mod evaluator;
 mod growing;
+mod loads;
 mod measure;
 mod meeting;
 mod places;
@@ -531,12 +536,14 @@ fn bench() {
             let archive = archive.expect("the other build's libffi.a");
             return beside::beside(archive.as_ref());
         }
+        Some("--loads") => return loads::loads(),
         Some("--sharing") => return sharing(archive),
         _ => {}
     }
     apply();
     texts_and_rules();
     rule_text::rule_text();
+    loads::loads();
     packets();
     let lines = growth();
     print_growth(&lines);

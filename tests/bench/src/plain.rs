@@ -122,6 +122,28 @@ pub fn read(table: &mut [u32], used: usize, stack: &mut [u32], text: &[u8]) -> A
     answer(table, used, made, node)
 }
 
+/// A load from a seed: refusal, and the digits written.
+#[inline(never)]
+pub fn generate(seed: u32, digits: usize, out: &mut [u8]) -> [usize; 2] {
+    if !(1..=4_095).contains(&digits) {
+        return [0, 0];
+    }
+    let Some(place) = out.get_mut(..digits) else {
+        return [10, 0];
+    };
+    let (mut state, mut wanted) = (seed, 1);
+    for (byte, left) in place.iter_mut().zip((0..digits as u32).rev()) {
+        state = state.wrapping_mul(1_664_525).wrapping_add(1_013_904_223);
+        // From a leaf, unless it would be the whole too early, to as many trees as digits are left.
+        let low = u32::from(wanted == 1 && left > 0);
+        let high = (left + 1 - wanted).min(2);
+        let digit = low + (state >> 16) % (high - low + 1);
+        wanted = wanted + digit - 1;
+        *byte = b'0' + digit as u8;
+    }
+    [0, digits]
+}
+
 /// Goes through a tree's digits and hands each to `put`; how many there are, or what was lacking.
 fn digits(
     table: &[u32],

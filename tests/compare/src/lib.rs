@@ -1,8 +1,9 @@
 //! What the comparison, the program's test and the benchmark share: packets, rules, texts and rule
 //! texts from a seeded generator, an answer as a list of numbers or as a program's line, stops tried again
-//! with one more of what they name, weeks of windows beside the model, and which requests of document 02
-//! hold.
+//! with one more of what they name, loads and weeks of windows beside the model, and which requests of
+//! document 02 hold.
 
+pub mod loads;
 pub mod packets;
 pub mod random;
 pub mod stops;
@@ -78,6 +79,11 @@ pub fn same_of(same: lazvorn::Same) -> model::Same {
 /// The same of an answer about where a run stopped.
 pub fn stopped_of(stopped: lazvorn::Stopped) -> model::Stopped {
     [stopped.refusal, stopped.place, stopped.steps, stopped.rule]
+}
+
+/// The same of an answer about a load.
+pub fn load_of(answer: lazvorn::LoadNumbers) -> model::load::LoadAnswer {
+    [answer.refusal, answer.digits]
 }
 
 /// The same of an answer about a week.

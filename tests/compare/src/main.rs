@@ -1,15 +1,17 @@
 //! Compares the engine with the second evaluator on packets, run and labelled, and with the model on
-//! packets, on calls of each operation, on texts and their beginnings, on rule texts and on weeks of
-//! windows: answers and, but for weeks, every lent word and byte. Each stop while applying is tried again with one more
-//! of what it names. Labelled rules are held to the rules alone too, and rule texts printed from random
-//! expressions to the expressions. Prints each difference, of rule texts and weeks the first few, how
-//! often each refusal was met, how many packets used each rule, what became of labels, how many runs
-//! stopped while applying and where, how many of them were tried again and what became of them, how
-//! often each stage of a labelling lacked room, how many calls had two equal nodes or no free node,
-//! what kinds of trees were taken apart or compared, how many labelled rules ran beside a label, or
-//! were rules, that never ended, and how many weeks were of each kind and what became of the minutes
-//! asked about. The exit status is 1 where anything differs, and where one of these that can be met was
-//! met too seldom for the run to mean something.
+//! packets, on calls of each operation, on texts and their beginnings, on rule texts, on weeks of
+//! windows and on loads: answers and, but for weeks, every lent word and byte. Each stop while
+//! applying is tried again with one more of what it names. Labelled rules are held to the rules alone
+//! too, rule texts printed from random expressions to the expressions, and loads to what comes back
+//! when they are read and written. Prints each difference, of rule texts, weeks and loads the first
+//! few, how often each refusal was met, how many packets used each rule, what became of labels, how
+//! many runs stopped while applying and where, how many of them were tried again and what became of
+//! them, how often each stage of a labelling lacked room, how many calls had two equal nodes or no
+//! free node, what kinds of trees were taken apart or compared, how many labelled rules ran beside a
+//! label, or were rules, that never ended, how many weeks were of each kind and what became of the
+//! minutes asked about, and how many loads had each kind of count, out and seed and what became of
+//! them. The exit status is 1 where anything differs, and where one of these that can be met was met
+//! too seldom for the run to mean something.
 //!
 //! `compare [PACKETS [SEED]]`
 
@@ -22,11 +24,12 @@ mod runs;
 mod same;
 mod unlabel;
 
+use compare::loads::{self, COUNTS, OUTS, SEEDS};
 use compare::packets::{self, WRONG_LABELS};
 use compare::random::Random;
 use compare::stops::{self, AGAIN, NUMBERS};
 use compare::weeks::{self, KINDS, MET, REFUSED};
-use compare::{window_of, RULES};
+use compare::{load_of, window_of, RULES};
 use model::Memory;
 
 /// How many runs of packets and how many calls of each operation a run compares if nothing else is
@@ -41,9 +44,11 @@ const BEGINNINGS: usize = 20_000;
 /// How many rules are labelled and applied.
 const LABELLED_RULES: usize = 4_000;
 
-/// How many weeks are asked about, and how many of their differences are printed.
+/// How many weeks are asked about, how many loads are asked for, and how many differences of each are
+/// printed.
 const WEEKS: usize = 20_000;
-const WEEKS_SHOWN: usize = 20;
+const LOADS: usize = 20_000;
+const SHOWN: usize = 20;
 
 /// How often a packet that is run must meet each refusal from 4 to 10, in how many that succeed each
 /// rule must be used, how often each kind of label must be met, how often a run must stop while applying
@@ -59,6 +64,10 @@ const SELDOM_TEXTS: usize = 1_000;
 
 /// How many weeks must be of each kind, and how often a minute of a week must meet each outcome.
 const SELDOM_WEEKS: usize = 500;
+
+/// How many loads must be of each kind and meet each outcome, and how many must be written.
+const SELDOM_LOADS: usize = 1_000;
+const WRITTEN_LOADS: usize = 5_000;
 
 /// How often each refusal was met, and 0 for success.
 pub type Counts = [usize; 12];
@@ -310,6 +319,13 @@ fn named<T: std::fmt::Debug>(names: &[T], counts: &[usize]) -> Met {
     names.zip(counts.iter().copied()).collect()
 }
 
+/// Prints the first of these differences; how many there are.
+fn print_first(wrong: &[String]) -> usize {
+    let first = wrong.iter().take(SHOWN);
+    first.for_each(|difference| println!("{difference}"));
+    wrong.len()
+}
+
 /// Compares weeks; how many minutes differ, and how many kinds and outcomes were met too seldom.
 fn compare_weeks(random: &mut Random) -> usize {
     let window = |week: &[u32], day, minute| window_of(lazvorn::window(week, day, minute));
@@ -318,9 +334,7 @@ fn compare_weeks(random: &mut Random) -> usize {
     for _ in 0..WEEKS {
         wrong.extend(compared.compare(random, window, next));
     }
-    for difference in wrong.iter().take(WEEKS_SHOWN) {
-        println!("{difference}");
-    }
+    let wrong = print_first(&wrong);
     let mut counts = [0; 14];
     counts[0] = compared.met[..2].iter().sum();
     counts[13] = compared.refused.iter().sum();
@@ -337,7 +351,51 @@ fn compare_weeks(random: &mut Random) -> usize {
         ("refused for", named(&REFUSED, &compared.refused)),
     ]
     .map(|(word, met)| print_met_at_least(SELDOM_WEEKS, word, &met));
-    wrong.len() + seldom.iter().sum::<usize>()
+    wrong + seldom.iter().sum::<usize>()
+}
+
+/// A text read by the engine into an empty table and written again, or the refusal. A node for each digit and
+/// a frame for each leaf are enough, and at most half of the digits, rounded up, are leaves.
+fn read_back(text: &[u8]) -> Result<Vec<u8>, usize> {
+    let digits = text.len();
+    let (mut table, mut stack) = (vec![0; 2 * digits], vec![0; 3 * digits.div_ceil(2)]);
+    let read = lazvorn::read(&mut table, 0, &mut stack, text);
+    if read.refusal != 0 {
+        return Err(read.refusal);
+    }
+    let mut out = vec![0; digits];
+    let written = lazvorn::write(&table, read.used, &mut stack, read.node, &mut out);
+    out.truncate(written.digits);
+    match written.refusal {
+        0 => Ok(out),
+        refusal => Err(refusal),
+    }
+}
+
+/// Compares loads; how many differ, and how many kinds and outcomes were met too seldom.
+fn compare_loads(random: &mut Random) -> usize {
+    let generate = |seed, digits, out: &mut [u8]| load_of(lazvorn::generate(seed, digits, out));
+    let mut compared = loads::Compared::default();
+    let wrong = (0..LOADS).filter_map(|_| compared.compare(random, generate, read_back));
+    let wrong: Vec<String> = wrong.collect();
+    let wrong = print_first(&wrong);
+    let [written, empty, too_few] = compared.met;
+    let mut counts = [0; 11];
+    counts[0] = written + empty;
+    counts[10] = too_few;
+    print("Loads", &counts, [10]);
+    let seldom = [
+        ("digits", named(&COUNTS, &compared.counts)),
+        ("out bytes", named(&OUTS, &compared.outs)),
+        ("seeds", named(&SEEDS, &compared.seeds)),
+        ("loads met", named(&loads::MET, &compared.met)),
+    ]
+    .map(|(word, met)| print_met_at_least(SELDOM_LOADS, word, &met));
+    let few = usize::from(written < WRITTEN_LOADS);
+    if few > 0 {
+        println!("{written} loads were written: too few");
+    }
+    wrong + seldom.iter().sum::<usize>() + few
 }
 
 /// Packets are compared in two threads beside everything else in a third, each from a seed of its own.
@@ -358,6 +416,7 @@ fn main() {
             + compare_texts(random, noise)
             + compare_beginnings(random, noise)
             + compare_weeks(random)
+            + compare_loads(random)
     };
     // The model and the second evaluator recurse as deep as trees and frames go.
     let deep = || std::thread::Builder::new().stack_size(1 << 30);

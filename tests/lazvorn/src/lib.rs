@@ -152,6 +152,15 @@ pub struct TextNumbers {
     pub bytes: usize,
 }
 
+/// The two numbers of an answer about a load. A refusal and an empty load have 0 for the digits.
+#[derive(Clone, Copy, Debug, Default, PartialEq, Eq)]
+pub struct LoadNumbers {
+    /// 0 for success, else the refusal's number.
+    pub refusal: usize,
+    /// The digits written.
+    pub digits: usize,
+}
+
 /// The three numbers of an answer about a week. Those after the refusal are 0 where there is no window.
 #[derive(Clone, Copy, Debug, Default, PartialEq, Eq)]
 pub struct WindowNumbers {
@@ -194,6 +203,9 @@ pub struct Week(pub [[Window; 4]; 7]);
 /// How many numbers a week has.
 pub const WEEK_NUMBERS: usize = 84;
 
+/// The most digits that a load has.
+pub const LOAD_DIGITS: usize = 4_095;
+
 /// Table or stack too long, `used` above the capacity, out bytes or step limit too large.
 pub const LIMITS: usize = 1;
 /// A used node is broken, or two used nodes are equal.
@@ -212,7 +224,7 @@ pub const STEPS: usize = 7;
 pub const NODES: usize = 8;
 /// Every frame is held.
 pub const FRAMES: usize = 9;
-/// The out bytes are full.
+/// The out bytes are full, or too few for a rule or a load.
 pub const OUT: usize = 10;
 /// A tree is not of the labelled form.
 pub const NOT_LABELLED: usize = 11;
@@ -326,6 +338,13 @@ mod raw {
         pub fn lazvorn_rule_text(
             text: *const u8,
             text_len: usize,
+            out: *mut u8,
+            out_len: usize,
+            answer: *mut [usize; 2],
+        );
+        pub fn lazvorn_generate(
+            seed: u32,
+            digits: usize,
             out: *mut u8,
             out_len: usize,
             answer: *mut [usize; 2],
@@ -579,6 +598,15 @@ pub fn rule_text(text: &[u8], out: &mut [u8]) -> TextNumbers {
     };
     let [refusal, bytes] = answer;
     TextNumbers { refusal, bytes }
+}
+
+/// Makes a load from a seed and writes it to `out`: the text of a whole tree of so many digits, the same for
+/// the same seed and count. A count outside 1 to 4,095 gives an empty load, whatever `out` is.
+pub fn generate(seed: u32, digits: usize, out: &mut [u8]) -> LoadNumbers {
+    let mut answer = [usize::MAX; 2];
+    unsafe { raw::lazvorn_generate(seed, digits, out.as_mut_ptr(), out.len(), &mut answer) };
+    let [refusal, digits] = answer;
+    LoadNumbers { refusal, digits }
 }
 
 /// An exported function that reads a week.

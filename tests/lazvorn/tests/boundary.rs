@@ -3,9 +3,9 @@
 //! one too few of each, so that an argument in another's place, or a length that is lost, shows.
 
 use lazvorn::{
-    Counted, Numbers, Parts, Rule, Same, Stopped, TextNumbers, Uses, Week, Window, WindowNumbers,
-    BROKEN, FRAMES, LIMITS, NODE, NODES, NOT_LABELLED, OUT, PACKET, RULE, RULE_TEXT, STEPS, TEXT,
-    WEEK,
+    Counted, LoadNumbers, Numbers, Parts, Rule, Same, Stopped, TextNumbers, Uses, Week, Window,
+    WindowNumbers, BROKEN, FRAMES, LIMITS, LOAD_DIGITS, NODE, NODES, NOT_LABELLED, OUT, PACKET,
+    RULE, RULE_TEXT, STEPS, TEXT, WEEK,
 };
 
 /// Fills memory that is to be left as found, or overwritten.
@@ -1175,6 +1175,7 @@ fn rule_text_on_a_stack_of_1_mib() {
 }
 
 extern "C" {
+    fn lazvorn_generate(seed: u32, digits: usize, out: *mut u8, out_len: usize, answer: *mut usize);
     fn lazvorn_window(
         week: *const u32,
         week_len: usize,
@@ -1595,6 +1596,263 @@ fn weeks_of_rust() {
     assert_eq!(week.next_window(0, 104), Err(WEEK));
 }
 
+/// Calls `generate` with so many out bytes, with noise before and after them and around the answer. Nothing but
+/// the out bytes and the answer's two numbers may be written, and the safe form must do the same. Gives the
+/// answer and the out bytes.
+fn generate_in(seed: u32, digits: usize, out: usize) -> (LoadNumbers, Vec<u8>) {
+    let mut lent = vec![BYTE; BEYOND + out + BEYOND];
+    let mut numbers = [usize::MAX - 1; BEYOND + 2 + BEYOND];
+    unsafe {
+        let (out_at, answer_at) = (lent.as_mut_ptr(), numbers.as_mut_ptr());
+        let (out_at, answer_at) = (out_at.add(BEYOND), answer_at.add(BEYOND));
+        lazvorn_generate(seed, digits, out_at, out, answer_at);
+    }
+    let (before, rest) = numbers.split_at(BEYOND);
+    let (answer, after) = rest.split_at(2);
+    assert_eq!([before, after], [&[usize::MAX - 1; BEYOND]; 2]);
+    let answer = LoadNumbers {
+        refusal: answer[0],
+        digits: answer[1],
+    };
+    let (before, rest) = lent.split_at(BEYOND);
+    let (bytes, after) = rest.split_at(out);
+    assert_eq!([before, after], [&[BYTE; BEYOND]; 2]);
+    let mut safe = vec![BYTE; out];
+    assert_eq!(lazvorn::generate(seed, digits, &mut safe), answer);
+    assert_eq!(safe, bytes);
+    (answer, safe)
+}
+
+/// A load of so many digits, with as many out bytes.
+fn load(seed: u32, digits: usize) -> Vec<u8> {
+    let (answer, text) = generate_in(seed, digits, digits);
+    assert_eq!(answer, LoadNumbers { refusal: 0, digits }, "{seed}");
+    text
+}
+
+/// A call that writes nothing: 10, or an empty load.
+fn writes_nothing(seed: u32, digits: usize, out: usize, refusal: usize) {
+    let (answer, bytes) = generate_in(seed, digits, out);
+    assert_eq!(answer, LoadNumbers { refusal, digits: 0 }, "{digits} {out}");
+    assert!(bytes.iter().all(|byte| *byte == BYTE), "{digits} {out}");
+}
+
+/// Seeds and their loads of one digit, of two, and so on, worked out from document 02, as all of these are.
+const SHORT_LOADS: [(u32, [&str; 12]); 3] = [
+    (
+        0,
+        [
+            "0",
+            "10",
+            "110",
+            "1110",
+            "11110",
+            "111200",
+            "1112010",
+            "11120110",
+            "111201110",
+            "1112011200",
+            "11120112100",
+            "111201121010",
+        ],
+    ),
+    (
+        1,
+        [
+            "0",
+            "10",
+            "110",
+            "1110",
+            "11110",
+            "111200",
+            "1112010",
+            "11120110",
+            "111201110",
+            "1112011110",
+            "11120111110",
+            "111201111200",
+        ],
+    ),
+    (
+        u32::MAX,
+        [
+            "0",
+            "10",
+            "200",
+            "2100",
+            "22000",
+            "221000",
+            "2200200",
+            "22002010",
+            "220022000",
+            "2200221000",
+            "22002220000",
+            "220022200100",
+        ],
+    ),
+];
+
+/// Loads of forty digits, from seeds in which the upper bits, the lower ones or neither are 0.
+const LOADS_OF_FORTY: [(u32, &str); 5] = [
+    (12, "2101212001121202100121210212221201000000"),
+    (65_535, "1111122101122022001010202120200112022000"),
+    (65_536, "2122100201011222200200020122110212200000"),
+    (1 << 31, "1112221022021200202120102012202120000000"),
+    (123_456_789, "2210022200122001022012100111220022110010"),
+];
+
+#[test]
+fn loads_of_few_digits() {
+    for (seed, loads) in SHORT_LOADS {
+        for (i, text) in loads.into_iter().enumerate() {
+            assert_eq!(load(seed, i + 1), text.as_bytes(), "{seed}");
+        }
+    }
+    for (seed, text) in LOADS_OF_FORTY {
+        assert_eq!(load(seed, 40), text.as_bytes(), "{seed}");
+    }
+}
+
+/// A number that changes with any byte: FNV-1a of 64 bits.
+fn fingerprint(bytes: &[u8]) -> u64 {
+    let add = |sum: u64, byte: &u8| (sum ^ u64::from(*byte)).wrapping_mul(0x100_0000_01b3);
+    bytes.iter().fold(0xcbf2_9ce4_8422_2325, add)
+}
+
+/// A long load: seed, digits, how many of them are 0, 1 and 2, the first and last twenty, and the fingerprint.
+type Long = (u32, usize, [usize; 3], &'static str, &'static str, u64);
+
+const LONG_LOADS: [Long; 7] = [
+    (
+        0,
+        4_095,
+        [1_346, 1_404, 1_345],
+        "11120112112101121100",
+        "00222000000000000000",
+        0xb259_5319_6a99_31f7,
+    ),
+    (
+        1,
+        4_095,
+        [1_361, 1_374, 1_360],
+        "11120111120120221222",
+        "00000000000000000000",
+        0x7b32_574d_5fbd_2be9,
+    ),
+    (
+        u32::MAX,
+        4_095,
+        [1_360, 1_376, 1_359],
+        "22002221212120222111",
+        "20120000000000000000",
+        0x5cce_0467_a060_7e9f,
+    ),
+    (
+        2_026,
+        4_095,
+        [1_376, 1_344, 1_375],
+        "12220220111120210102",
+        "00000000000000000000",
+        0x6377_0dae_bad9_d119,
+    ),
+    (
+        0,
+        4_094,
+        [1_345, 1_405, 1_344],
+        "11120112112101121100",
+        "00022010000000000000",
+        0x4bb0_dc18_4bba_20ee,
+    ),
+    (
+        u32::MAX,
+        1_000,
+        [335, 331, 334],
+        "22002221212120222111",
+        "20000000000000000000",
+        0x04d7_74b7_a29d_484a,
+    ),
+    // 256 trees are wanted at one place of this one.
+    (
+        176_411_936,
+        4_095,
+        [1_432, 1_232, 1_431],
+        "21110202012110211122",
+        "00000000000000000000",
+        0x71b5_f348_67be_3f8f,
+    ),
+];
+
+#[test]
+fn loads_of_many_digits() {
+    for (seed, digits, counts, first, last, number) in LONG_LOADS {
+        let text = load(seed, digits);
+        let count = |digit| text.iter().filter(|byte| **byte == digit).count();
+        assert_eq!([b'0', b'1', b'2'].map(count), counts, "{seed} {digits}");
+        assert_eq!(text[..20], *first.as_bytes(), "{seed} {digits}");
+        assert_eq!(text[digits - 20..], *last.as_bytes(), "{seed} {digits}");
+        assert_eq!(fingerprint(&text), number, "{seed} {digits}");
+    }
+}
+
+/// A count outside 1 to 4,095 gives an empty load, however many out bytes there are.
+#[test]
+fn loads_that_are_empty() {
+    let far = [16, 31, 32, 48, 63].map(|bits| (1_usize << bits) + 9);
+    let near = [0, LOAD_DIGITS + 1, LOAD_DIGITS + 2, usize::MAX];
+    for digits in [&near[..], &far].concat() {
+        for seed in [0, 1, 12, u32::MAX] {
+            for out in [0, 1, 8, 9, 4_094, 4_095, 4_096, 5_000] {
+                writes_nothing(seed, digits, out, 0);
+            }
+        }
+    }
+}
+
+/// As many out bytes as digits are enough, and those past them stay; one fewer is too few. There is no most.
+#[test]
+fn out_bytes_of_loads() {
+    for seed in [0, 1, u32::MAX] {
+        for digits in [1, 2, 3, 12, 100, 4_094, LOAD_DIGITS] {
+            let text = load(seed, digits);
+            for more in [1, 2, 70_000, 200_000] {
+                let (answer, bytes) = generate_in(seed, digits, digits + more);
+                assert_eq!(answer, LoadNumbers { refusal: 0, digits });
+                assert_eq!(bytes[..digits], text);
+                assert!(bytes[digits..].iter().all(|byte| *byte == BYTE));
+            }
+            for out in [0, digits / 2, digits - 1] {
+                writes_nothing(seed, digits, out, OUT);
+            }
+        }
+    }
+}
+
+/// The same seed and count give the same load, whatever was made in between.
+#[test]
+fn loads_made_twice() {
+    let seeds = [0, 1, 12, u32::MAX];
+    let loads = || seeds.map(|seed| [1, 12, 40, LOAD_DIGITS].map(|digits| load(seed, digits)));
+    assert_eq!(loads(), loads());
+}
+
+/// Read takes a load into a table in which other trees are, with a node for each digit and a frame for each
+/// two, and Write gives it back.
+#[test]
+fn loads_are_read() {
+    let digits = (1..=60).chain([500, 4_094, LOAD_DIGITS]);
+    for (i, digits) in digits.enumerate() {
+        let text = load(NOISE.wrapping_mul(i as u32), digits);
+        let mut lent = Lent::new(6 + 2 * digits, 3 * digits.div_ceil(2), digits);
+        let (t, s, o) = lent.parts();
+        let read = lazvorn::read(t, 3, s, &text);
+        assert_eq!(read.refusal, 0, "{digits}");
+        let written = lazvorn::write(t, read.used, s, read.node, o);
+        assert_eq!((written.refusal, written.digits), (0, digits));
+        assert_eq!(o, text);
+        lent.nothing_beyond();
+    }
+}
+
 /// Every call with a table of so many words, on a packet with this rule. Each refusal but that of `unlabel`
 /// is `refusal`, where nodes are to be made for the rule, else 0.
 fn each_call(words: usize, rule: &[u8], refusal: usize) {
@@ -1619,6 +1877,7 @@ fn each_call(words: usize, rule: &[u8], refusal: usize) {
     assert_eq!(lazvorn::same(&lent, 3, 2, 1).refusal, 0);
     assert_eq!(lazvorn::window(&[0; 84], 6, 1_439), NO_WINDOW);
     assert_eq!(lazvorn::next_window(&[0; 84], 6, 1_439), NO_WINDOW);
+    assert_eq!(lazvorn::generate(1, LOAD_DIGITS, &mut out).refusal, 0);
     assert_eq!(
         lazvorn::run(&mut lent, &mut stack, &mut out, &packet).refusal,
         refusal

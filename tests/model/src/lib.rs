@@ -8,6 +8,7 @@
 use std::collections::{HashMap, HashSet};
 use std::rc::Rc;
 
+pub mod load;
 pub mod rule_text;
 pub mod week;
 

@@ -2,17 +2,17 @@
 use Prim.Native.Nat.{_+_, _-_, _%_, _≤_}
 use mathlib.Core.Logic.{⊎-elim, inl, inr}
 use native.Mathlib.Omega.{arith}
-use Rattle.generator.proofs.Between.{Taken, Fewest, Most, wanted-between, last-taken, fewest-most, between-taken}
+use Rattle.generator.proofs.Between.{Taken, FewestBranches, MostBranches, wanted-between, last-taken, fewest-most, between-taken}
 use borrow.Author.Needs.{needs}
 use Rattle.generator.proofs.branches.Statement.{statement}
 use Rattle.generator.proofs.branches.Tie as tie
 use Rattle.generator.proofs.branches.Reads as reads
 use Rattle.generator.proofs.branches.Lts as lts
 
-fewest : (c : lts.Joined2 reads.Pre reads.Post) → Fewest (c .before .before .args .wanted) (c .if2 .lowest)
+fewest : (c : lts.Joined2 reads.Pre reads.Post) → FewestBranches (c .before .before .args .wanted) (c .if2 .lowest)
 fewest c = ⊎-elim (λ w. inl (w .0 .taken, w .1)) (λ w. inr (w .0 .left, w .1)) (c .if2 .came)
 
-most : (c : lts.Joined3 reads.Pre reads.Post) → Most (c .before .before .before .args .left) (c .before .before .before .args .wanted) (c .if3 .highest)
+most : (c : lts.Joined3 reads.Pre reads.Post) → MostBranches (c .before .before .before .args .left) (c .before .before .before .args .wanted) (c .if3 .highest)
 most c = ⊎-elim (λ w. inl (w .0 .taken, w .1)) (λ w. inr (w .0 .left, w .1)) (c .if3 .came)
 
 ordered : (c : lts.Joined3 reads.Pre reads.Post) → (c .before .if2 .lowest ≤ c .if3 .highest) × (c .if3 .highest ≤ 2)

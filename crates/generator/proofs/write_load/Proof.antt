@@ -1,10 +1,9 @@
--- `generator::write_load` meets its contract. The loop's invariant: the digits before i are written, and with those from the place on they are the load.
+-- `generator::write_load` meets its contract. The loop's invariant: the digits before i are written, and with those still to be drawn they are the load.
 -- Assumes nothing.
 use Prim.Native.Nat.{_-_}
 use native.Mathlib.Omega.{arith}
 use Rattle.generator.proofs.Between.{wanted-between}
-use Rattle.generator.proofs.Writing.{Writing, writing-start, writing-length, place-ends, wants-one, writing-digit, writing-done}
-use borrow.Author.Needs.{needs}
+use Rattle.generator.proofs.Writing.{Writing, writing-start, writing-length, digit-ends, wants-one, writing-digit, writing-done}
 use Rattle.generator.proofs.write_load.Statement.{statement}
 use Rattle.generator.proofs.write_load.Tie as tie
 
@@ -29,7 +28,7 @@ sub-branches-2 c = omega (arith, c .before .loop-test .taken)
 branches-requires : tie.Need-branches-requires Inv-loop μ-loop
 branches-requires c κs =
     let a = c .before .before in
-    (place-ends (a .loop .inv) (c .before .loop-test .taken), omega (arith, a .before .before .pre .3))
+    (digit-ends (a .loop .inv) (c .before .loop-test .taken), omega (arith, a .before .before .pre .3))
 
 cast-out : tie.Need-cast-out Inv-loop μ-loop
 cast-out c = omega (arith, c .branches .ensures .1)
@@ -50,7 +49,7 @@ add-wanted : tie.Need-add-wanted Inv-loop μ-loop
 add-wanted c =
     let t = c .before .before in
     let a = t .before in
-    omega (arith, wanted-between _ _ (place-ends (a .loop .inv) (t .loop-test .taken)) .1, c .branches .ensures .1, a .before .before .pre .3)
+    omega (arith, wanted-between _ _ (digit-ends (a .loop .inv) (t .loop-test .taken)) .1, c .branches .ensures .1, a .before .before .pre .3)
 
 add-i : tie.Need-add-i Inv-loop μ-loop
 add-i c = let t = c .before .before in omega (arith, t .loop-test .taken, t .before .before .before .pre .3)
