@@ -22,7 +22,8 @@
  * What a caller owes is what C itself asks: a pointer reaches as many elements as its length says,
  * and what the call writes (the table but for lazvorn_write, lazvorn_unlabel and lazvorn_same, the
  * stack, out, answer) overlaps nothing else that is lent to it. There is no other condition:
- * counts, node numbers and contents that do not fit are refused by number.
+ * counts, node numbers and contents that do not fit are refused by number, but for
+ * lazvorn_generate's count of digits, for which the load is empty.
  *
  * Each call writes its numbers to answer, and the caller lends room for as many:
  *   lazvorn_apply and lazvorn_run write ten: refusal, node, used, steps, digits, and the uses of
@@ -300,12 +301,13 @@ void lazvorn_rule_text(
  * state * 1,664,525 + 1,013,904,223, kept to 32 bits, and the draw is the state divided by 65,536,
  * rounded down. A digit is allowed if the text can still become a whole tree of exactly so many
  * digits. The draw's remainder by the number of digits allowed there is the place, from 0, of the
- * one that is taken, in ascending order; also where only one is allowed there is a draw.
- * Gives the refusal and how many digits were written. A count outside 1 to 4,095 gives an empty
- * load: no refusal and no digits, and out, whatever it is, stays as found. Else refusal 10, which
- * leaves out as found. lazvorn_read takes each load that is not empty, given a table that passes 1
- * and 2, nodes and frames: a node for each digit and a frame for each two of them, rounded up, are
- * enough.
+ * one that is taken, in ascending order. There is a draw for each digit, also where only one is
+ * allowed.
+ * Gives the refusal and how many digits were written. For a count outside 1 to 4,095 the load is
+ * empty: no refusal and no digits, and out, whatever it is, stays as found. Else refusal 10 if out
+ * has fewer bytes than digits, which leaves out as found. lazvorn_read takes each load that is not
+ * empty, given a table that passes 1 and 2, nodes and frames: a free node for each digit and a
+ * frame for each two of them, rounded up, are enough.
  */
 void lazvorn_generate(
     uint32_t seed,     /* the seed, any number of 32 bits */

@@ -14,30 +14,30 @@ use Rattle.ternary.specs.Wanted.{wantedAfter}
 use Rattle.loads.specs.Loads.{canEnd, those, threeDigits, allowed, pick}
 
 -- k numbers from a on
-unfoldable row : ℕ → ℕ → List ℕ
-row a zero = []
-row a (suc k) = a ∷ row (suc a) k
+unfoldable numbersFrom : ℕ → ℕ → List ℕ
+numbersFrom a zero = []
+numbersFrom a (suc k) = a ∷ numbersFrom (suc a) k
 
-row-many : (a k : ℕ) → length (row a k) ≡ k
-unfolding row
-row-many a zero = refl
-row-many a (suc k) = ap suc (row-many (suc a) k)
+numbers-many : (a k : ℕ) → length (numbersFrom a k) ≡ k
+unfolding numbersFrom
+numbers-many a zero = refl
+numbers-many a (suc k) = ap suc (numbers-many (suc a) k)
 
-row-at : (a k i : ℕ) → i < k → getD (row a k) i 0 ≡ a + i
-unfolding row
-row-at a zero i h = absurd (omega arith)
-row-at a (suc k) zero h = omega arith
-row-at a (suc k) (suc i) h = row-at (suc a) k i (omega arith) ∙ omega arith
+numbers-at : (a k i : ℕ) → i < k → getD (numbersFrom a k) i 0 ≡ a + i
+unfolding numbersFrom
+numbers-at a zero i h = absurd (omega arith)
+numbers-at a (suc k) zero h = omega arith
+numbers-at a (suc k) (suc i) h = numbers-at (suc a) k i (omega arith) ∙ omega arith
 
-pick-row : (a k draw : ℕ) → 0 < k → pick (row a k) draw ≡ a + draw % k
+pick-numbers : (a k draw : ℕ) → 0 < k → pick (numbersFrom a k) draw ≡ a + draw % k
 unfolding pick
-pick-row a k draw h = ap (λ (j : ℕ). getD (row a k) (draw % j) 0) (row-many a k) ∙ row-at a k (draw % k) (mod-lt draw h)
+pick-numbers a k draw h = ap (λ (j : ℕ). getD (numbersFrom a k) (draw % j) 0) (numbers-many a k) ∙ numbers-at a k (draw % k) (mod-lt draw h)
 
 -- the digits allowed, by the three tests
-abbrev listed : Bool → Bool → Bool → List ℕ
-listed x y z = cond x (48 ∷ cond y (49 ∷ cond z (50 ∷ []) []) (cond z (50 ∷ []) [])) (cond y (49 ∷ cond z (50 ∷ []) []) (cond z (50 ∷ []) []))
+abbrev byTests : Bool → Bool → Bool → List ℕ
+byTests x y z = cond x (48 ∷ cond y (49 ∷ cond z (50 ∷ []) []) (cond z (50 ∷ []) [])) (cond y (49 ∷ cond z (50 ∷ []) []) (cond z (50 ∷ []) []))
 
-by-tests : (left n : ℕ) {x y z : Bool} → canEnd left (some n) ≡ x → leb (suc n) left ≡ y → leb (suc (suc n)) left ≡ z → allowed left (some (suc n)) ≡ listed x y z
+by-tests : (left n : ℕ) {x y z : Bool} → canEnd left (some n) ≡ x → leb (suc n) left ≡ y → leb (suc (suc n)) left ≡ z → allowed left (some (suc n)) ≡ byTests x y z
 unfolding allowed those threeDigits wantedAfter canEnd
 by-tests left n p q r = rw (p, q, r)
 
@@ -46,10 +46,10 @@ abbrev pub Taken : ℕ → ℕ → ℕ → ℕ → Type 0
 Taken left w draw r = (48 + r ≡ pick (allowed left (some w)) draw) × (r ≤ 2)
 
 -- where those allowed are k from that of a branches on
-row-taken : (left n draw a k : ℕ) {x y z : Bool} → canEnd left (some n) ≡ x → leb (suc n) left ≡ y → leb (suc (suc n)) left ≡ z → listed x y z ≡ row (48 + a) k → 0 < k → a + k ≤ 3
+numbers-taken : (left n draw a k : ℕ) {x y z : Bool} → canEnd left (some n) ≡ x → leb (suc n) left ≡ y → leb (suc (suc n)) left ≡ z → byTests x y z ≡ numbersFrom (48 + a) k → 0 < k → a + k ≤ 3
     → Taken left (suc n) draw (a + draw % k)
-row-taken left n draw a k p q r e h m =
-    (sym (ap (λ (cs : List ℕ). pick cs draw) (by-tests left n p q r ∙ e) ∙ pick-row (48 + a) k draw h ∙ omega arith), omega (arith, mod-lt draw h))
+numbers-taken left n draw a k p q r e h m =
+    (sym (ap (λ (cs : List ℕ). pick cs draw) (by-tests left n p q r ∙ e) ∙ pick-numbers (48 + a) k draw h ∙ omega arith), omega (arith, mod-lt draw h))
 
 -- one digit and those left can use up the trees wanted: at least one tree, and no more trees than digits
 pub wanted-between : (left w : ℕ) → canEnd (left + 1) (some w) ≡ true → (1 ≤ w) × (w ≤ left + 1)
@@ -59,12 +59,12 @@ wanted-between left (suc n) e = (omega arith, leb-true (suc n) (left + 1) e)
 
 -- where no digit is left after it, a leaf is taken
 pub last-taken : (left w draw : ℕ) → left ≡ 0 → canEnd (left + 1) (some w) ≡ true → Taken left w draw 0
-unfolding canEnd row
+unfolding canEnd numbersFrom
 last-taken left w draw z e = go w (wanted-between left w e)
   where
     go : (w : ℕ) → (1 ≤ w) × (w ≤ left + 1) → Taken left w draw 0
     go zero h = absurd (omega (arith, h .0))
-    go (suc zero) h = subst (Taken left 1 draw) (let e : 0 + draw % 1 ≡ 0 = omega (arith, mod-lt draw {m = 1} (omega arith)) in e) (row-taken left 0 draw 0 1 (eq-eqb left 0 z) (lt-leb 1 left (omega arith)) (lt-leb 2 left (omega arith)) refl (omega arith) (omega arith))
+    go (suc zero) h = subst (Taken left 1 draw) (let e : 0 + draw % 1 ≡ 0 = omega (arith, mod-lt draw {m = 1} (omega arith)) in e) (numbers-taken left 0 draw 0 1 (eq-eqb left 0 z) (lt-leb 1 left (omega arith)) (lt-leb 2 left (omega arith)) refl (omega arith) (omega arith))
     go (suc (suc w)) h = absurd (omega (arith, h .1))
 
 -- the fewest branches where digits are left: none, unless a leaf would end the text
@@ -85,7 +85,7 @@ fewest-most left w a b z e f m = go f m (wanted-between left w e)
     go (inr (p, q)) (inr (r, s)) h = (omega arith, omega arith)
 
 pub between-taken : (left w draw a b : ℕ) → (left ≡ 0 → ⊥) → canEnd (left + 1) (some w) ≡ true → FewestBranches w a → MostBranches left w b → Taken left w draw (a + draw % (b - a + 1))
-unfolding canEnd row
+unfolding canEnd numbersFrom
 between-taken left w draw a b z e f m = go w b (wanted-between left w e) f m
   where
     go : (w b : ℕ) → (1 ≤ w) × (w ≤ left + 1) → FewestBranches w a → MostBranches left w b → Taken left w draw (a + draw % (b - a + 1))
@@ -93,14 +93,14 @@ between-taken left w draw a b z e f m = go w b (wanted-between left w e) f m
     go (suc zero) b h (inr (p, q)) m = absurd (p refl)
     go (suc zero) b h (inl (p, q)) (inl (r, s)) =
         let k : b ≡ 1 = omega arith in
-        rw (q, k) (row-taken left 0 draw 1 1 (ne-eqb left 0 z) (le-leb 1 left (omega arith)) (lt-leb 2 left (omega arith)) refl (omega arith) (omega arith))
+        rw (q, k) (numbers-taken left 0 draw 1 1 (ne-eqb left 0 z) (le-leb 1 left (omega arith)) (lt-leb 2 left (omega arith)) refl (omega arith) (omega arith))
     go (suc zero) b h (inl (p, q)) (inr (r, s)) =
-        rw (q, s) (row-taken left 0 draw 1 2 (ne-eqb left 0 z) (le-leb 1 left (omega arith)) (le-leb 2 left (omega arith)) refl (omega arith) (omega arith))
+        rw (q, s) (numbers-taken left 0 draw 1 2 (ne-eqb left 0 z) (le-leb 1 left (omega arith)) (le-leb 2 left (omega arith)) refl (omega arith) (omega arith))
     go (suc (suc n)) b h (inl (p, q)) m = absurd (omega arith)
     go (suc (suc n)) zero h (inr (p, q)) (inl (r, s)) =
-        rw q (row-taken left (suc n) draw 0 1 (le-leb (suc n) left (omega (arith, h .1))) (lt-leb (suc (suc n)) left (omega arith)) (lt-leb (suc (suc (suc n))) left (omega arith)) refl (omega arith) (omega arith))
+        rw q (numbers-taken left (suc n) draw 0 1 (le-leb (suc n) left (omega (arith, h .1))) (lt-leb (suc (suc n)) left (omega arith)) (lt-leb (suc (suc (suc n))) left (omega arith)) refl (omega arith) (omega arith))
     go (suc (suc n)) (suc zero) h (inr (p, q)) (inl (r, s)) =
-        rw q (row-taken left (suc n) draw 0 2 (le-leb (suc n) left (omega (arith, h .1))) (le-leb (suc (suc n)) left (omega arith)) (lt-leb (suc (suc (suc n))) left (omega arith)) refl (omega arith) (omega arith))
+        rw q (numbers-taken left (suc n) draw 0 2 (le-leb (suc n) left (omega (arith, h .1))) (le-leb (suc (suc n)) left (omega arith)) (lt-leb (suc (suc (suc n))) left (omega arith)) refl (omega arith) (omega arith))
     go (suc (suc n)) (suc (suc b)) h (inr (p, q)) (inl (r, s)) = absurd (omega arith)
     go (suc (suc n)) b h (inr (p, q)) (inr (r, s)) =
-        rw (q, s) (row-taken left (suc n) draw 0 3 (le-leb (suc n) left (omega (arith, h .1))) (le-leb (suc (suc n)) left (omega arith)) (le-leb (suc (suc (suc n))) left (omega arith)) refl (omega arith) (omega arith))
+        rw (q, s) (numbers-taken left (suc n) draw 0 3 (le-leb (suc n) left (omega (arith, h .1))) (le-leb (suc (suc n)) left (omega arith)) (le-leb (suc (suc (suc n))) left (omega arith)) refl (omega arith) (omega arith))

@@ -19,7 +19,7 @@ abbrev drawingOf : ℕ → ℕ → Drawing
 drawingOf s w = record { state = s; wanted = some w }
 
 -- The load of n digits before digit i, with the bytes out₀ at entry: the digits written and those still to be drawn are the load.
-pub record Writing (seed n : ℕ) (out₀ : List ℕ) (i s w : ℕ) (out : List ℕ) : Type 0 where
+pub record WritingLoad (seed n : ℕ) (out₀ : List ℕ) (i s w : ℕ) (out : List ℕ) : Type 0 where
   pub inside : i ≤ n
   pub small : s < 4294967296
   pub ends : canEnd (n - i) (some w) ≡ true
@@ -28,7 +28,7 @@ pub record Writing (seed n : ℕ) (out₀ : List ℕ) (i s w : ℕ) (out : List 
   pub rest : digits ++ digitsFrom (n - i) (drawingOf s w) ≡ digitsFrom n (firstDrawing seed)
   pub bytes : out ≡ digits ++ drop i out₀
 
-pub writing-start : {seed n : ℕ} {out : List ℕ} → seed < 4294967296 → 1 ≤ n → Writing seed n out 0 seed 1 out
+pub writing-start : {seed n : ℕ} {out : List ℕ} → seed < 4294967296 → 1 ≤ n → WritingLoad seed n out 0 seed 1 out
 unfolding firstDrawing
 writing-start {seed} {n} {out} f h =
     let z : n - 0 ≡ n = omega arith in
@@ -47,7 +47,7 @@ next-drawing : (left s w b : ℕ) → (w ≡ 0 → ⊥) → Taken left w (drawn 
 unfolding nextDrawing digitAt
 next-drawing left s w b z t = ap (λ o. record { state = nextState s; wanted = o }) (sym (after-digit (pick (allowed left (some w)) (drawn s)) w b z (sym (t .0)) (t .1)))
 
-module _ {seed n : ℕ} {out₀ : List ℕ} {i s w : ℕ} {out : List ℕ} (x : Writing seed n out₀ i s w out) where
+module _ {seed n : ℕ} {out₀ : List ℕ} {i s w : ℕ} {out : List ℕ} (x : WritingLoad seed n out₀ i s w out) where
   module _ (h : i < n) where
     one-more : n - i ≡ suc (n - 1 - i)
     one-more = omega arith
@@ -58,7 +58,7 @@ module _ {seed n : ℕ} {out₀ : List ℕ} {i s w : ℕ} {out : List ℕ} (x : 
     pub wants-one : 1 ≤ w
     wants-one = wanted-between (n - 1 - i) w digit-ends .0
 
-    digit-written : {b : ℕ} → Taken (n - 1 - i) w (drawn s) b → i < length out₀ → Writing seed n out₀ (i + 1) (nextState s) (w - 1 + b) (set out i (48 + b))
+    digit-written : {b : ℕ} → Taken (n - 1 - i) w (drawn s) b → i < length out₀ → WritingLoad seed n out₀ (i + 1) (nextState s) (w - 1 + b) (set out i (48 + b))
     unfolding nextState digitsFrom digitAt
     digit-written {b} t k =
         let left = n - 1 - i in
@@ -78,10 +78,10 @@ module _ {seed n : ℕ} {out₀ : List ℕ} {i s w : ℕ} {out : List ℕ} (x : 
         }
 
     -- the state s′ after the draw, and the digit that is taken for what is drawn
-    pub writing-digit : {s′ b : ℕ} → s′ ≡ nextState s → Taken (n - 1 - i) w (s′ / 65536) b → i < length out₀ → Writing seed n out₀ (i + 1) s′ (w - 1 + b) (set out i (48 + b))
+    pub writing-digit : {s′ b : ℕ} → s′ ≡ nextState s → Taken (n - 1 - i) w (s′ / 65536) b → i < length out₀ → WritingLoad seed n out₀ (i + 1) s′ (w - 1 + b) (set out i (48 + b))
     unfolding drawn
     writing-digit {s′} {b} e t k =
-        subst (λ (z : ℕ). Writing seed n out₀ (i + 1) z (w - 1 + b) (set out i (48 + b))) (sym e) (digit-written (subst (λ (z : ℕ). Taken (n - 1 - i) w (z / 65536) b) e t) k)
+        subst (λ (z : ℕ). WritingLoad seed n out₀ (i + 1) z (w - 1 + b) (set out i (48 + b))) (sym e) (digit-written (subst (λ (z : ℕ). Taken (n - 1 - i) w (z / 65536) b) e t) k)
 
   pub writing-length : n ≤ length out₀ → length out ≡ length out₀
   writing-length h = ap length (x .bytes) ∙ length-append (x .digits) (drop i out₀) ∙ omega (arith, x .many, x .inside, length-drop i out₀)

@@ -28,10 +28,10 @@ fn branches(draw: usize, wanted: usize, left: usize) -> usize
     if left == 0 {
         return 0;
     }
-    let lowest = if wanted == 1 { 1 } else { 0 };
-    let most = left + 1 - wanted;
-    let highest = if most < 2 { most } else { 2 };
-    lowest + draw % (highest - lowest + 1)
+    let fewest = if wanted == 1 { 1 } else { 0 };
+    let room = left + 1 - wanted;
+    let most = if room < 2 { room } else { 2 };
+    fewest + draw % (most - fewest + 1)
 }
 
 // Writes a load of n digits to the first n out bytes.

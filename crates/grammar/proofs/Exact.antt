@@ -14,7 +14,7 @@ use Rattle.calculus.specs.Term.{Term}
 use Rattle.calculus.specs.Bytes.{bytes, rule, IsRule}
 use Rattle.calculus.specs.Abstraction.{ruleTree}
 use Rattle.calculus.proofs.Rule.{rule-exact, bytes-unique}
-use Rattle.table.specs.Outcome.{Outcome}
+use Rattle.table.specs.Outcome.{Outcome, intoOut}
 use Rattle.table.specs.Claims.{Lays}
 use Rattle.table.specs.declared.Refusal.the-variants.{Out}
 use Rattle.table.proofs.Words.{zero-one}
@@ -23,10 +23,10 @@ use Rattle.translation.proofs.Translates.{translate-gives}
 use Rattle.grammar.specs.Expression.{Expression}
 use Rattle.grammar.specs.Meaning.{termOf}
 use Rattle.grammar.specs.Text.{IsText, readText}
-use Rattle.grammar.specs.Outcome.{refusedText, givenBytes, Gives, no-reading, no-rule, no-room, fits, intoOut, ofBytes, ofReading, ruleText}
+use Rattle.grammar.specs.Outcome.{refusedText, givenBytes, Gives, no-reading, no-rule, no-room, fits, ofBytes, ofReading, ruleText}
 use Rattle.grammar.specs.Claims.{Encodes}
 use Rattle.grammar.specs.declared.Encoded.{Encoded}
-use Rattle.grammar.specs.declared.Encoded.the-variants.{Bytes}
+use Rattle.grammar.specs.declared.Encoded.the-variants.{Bytes, Refused}
 use Rattle.grammar.proofs.Text.{text-exact, text-unique}
 
 some-one : {t u : Term} → _≡_ {A = Option Term} (some t) (some u) → t ≡ u
@@ -47,7 +47,7 @@ bytes-no-rule e n = go (rule (bytes (termOf e))) refl
     go (some t) q = absurd (n (its-rule e t q))
 
 module _ (text out : List ℕ) where
-  given-room : (e : Expression) → IsText text e → IsRule (bytes (termOf e)) (termOf e) → Gives text out (intoOut (bytes (termOf e)) out)
+  given-room : (e : Expression) → IsText text e → IsRule (bytes (termOf e)) (termOf e) → Gives text out (intoOut Bytes Refused (bytes (termOf e)) out)
   unfolding intoOut
   given-room e h r = go (leb (length (bytes (termOf e))) (length out)) refl
     where

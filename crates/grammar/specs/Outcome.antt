@@ -1,14 +1,12 @@
 -- The whole outcome of reading a rule text ([3]). Assumes nothing: these are definitions.
 use Prim.Native.Nat.{ℕ, _≤_, _<_}
 use mathlib.Core.Path.{_≡_}
-use mathlib.Core.Bool.{cond}
 use mathlib.Core.List.{List, [], _∷_, _++_}
 use mathlib.Core.Option.{Option, none, some}
 use lib.ListN.{length, drop}
-use lib.Dec.{leb}
 use Rattle.calculus.specs.Term.{Term}
 use Rattle.calculus.specs.Bytes.{bytes, rule, IsRule}
-use Rattle.table.specs.Outcome.{Outcome, wholeOut}
+use Rattle.table.specs.Outcome.{Outcome, wholeOut, intoOut}
 use Rattle.table.specs.Refusal.{number}
 use Rattle.table.specs.declared.Refusal.{Refusal}
 use Rattle.table.specs.declared.Refusal.the-variants.{Rule, Out, RuleText}
@@ -44,14 +42,10 @@ pub data Gives (text out : List ℕ) (o : Outcome Encoded) : Type 0 where
 
 -- What follows computes the outcome; the theorem `outcome-exact` says that it is o exactly where Gives holds of o.
 
--- 10, or the bytes l
-unfoldable pub intoOut : List ℕ → List ℕ → Outcome Encoded
-intoOut l out = cond (leb (length l) (length out)) (givenBytes l out) (refusedText Out out)
-
--- 5 where the bytes l are no rule
+-- 5 where the bytes l are no rule, then 10
 unfoldable pub ofBytes : List ℕ → Option Term → List ℕ → Outcome Encoded
 ofBytes l none out = refusedText Rule out
-ofBytes l (some t) out = intoOut l out
+ofBytes l (some t) out = intoOut Bytes Refused l out
 
 -- 12 where the text has no reading
 unfoldable pub ofReading : Option Expression → List ℕ → Outcome Encoded

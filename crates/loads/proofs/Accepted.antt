@@ -71,6 +71,6 @@ module _ (seed n : ℕ) (k : IsCount n) where
         go (ReadLacks.no-frames p r h) = LoadLacks.no-frames p h
         go (ReadLacks.no-nodes p r h a) = LoadLacks.no-nodes p h (r .tree-of) a
 
-    -- a free node and half a frame for each digit, and one half more, are enough
-    pub load-room : atEntry true w u s ≡ none → n + 1 ≤ frames s * 2 → u + n ≤ capacity w → ReadHas w u s (load seed n) load-tree
+    -- a free node for each digit and a frame for each two of them, rounded up, are enough
+    pub load-room : atEntry true w u s ≡ none → n ≤ frames s * 2 → u + n ≤ capacity w → ReadHas w u s (load seed n) load-tree
     load-room e f h = read-room w u s (load seed n) e load-readable (omega (arith, load-frames)) (omega (arith, load-many seed n k))

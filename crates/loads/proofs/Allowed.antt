@@ -13,7 +13,7 @@ use Rattle.table.proofs.Words.{zero-one}
 use Rattle.ternary.specs.Wanted.{wantedAfter, wantedFrom, wanted}
 use Rattle.ternary.proofs.Wanted.{none-wanted, leaves-wanted, wanted-append, wanted-whole, digits-within}
 use Rattle.loads.specs.Loads.{canEnd, threeDigits, allowed, pick}
-use Rattle.loads.specs.Claims.{Allowed, Ascend, AllowedAre}
+use Rattle.loads.specs.Claims.{Allowed, DigitsAscend, AllowedAre}
 use Rattle.loads.proofs.Lists.{some-member, pick-member, those-hold, hold-those, those-ascend, three-ascend}
 
 -- stems leave the number of trees wanted
@@ -23,7 +23,7 @@ stems-wanted zero n l = refl
 stems-wanted (suc k) n l = stems-wanted k n l
 
 -- so many digits that use up the trees wanted
-abbrev UsedUp : ℕ → Option ℕ → Type 0
+abbrev pub UsedUp : ℕ → Option ℕ → Type 0
 UsedUp left o = (r : List ℕ) × (length r ≡ left) × (wantedFrom o r ≡ some 0)
 
 used-up : (left : ℕ) (o : Option ℕ) → canEnd left o ≡ true → UsedUp left o
@@ -49,7 +49,7 @@ pub can-end-exactly : (left : ℕ) (o : Option ℕ) → (canEnd left o ≡ true)
 can-end-exactly left o = (used-up left o, ends left o)
 
 -- the three digits ascend
-digits-ascend : Ascend 0 threeDigits
+digits-ascend : DigitsAscend 0 threeDigits
 unfolding threeDigits
 digits-ascend = three-ascend threeDigits refl (omega arith) (omega arith)
 

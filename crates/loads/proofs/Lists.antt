@@ -9,8 +9,8 @@ use native.Mathlib.Nat.{mod-lt}
 use lib.ListN.{length, getD}
 use Rattle.table.proofs.Words.{told-apart}
 use Rattle.loads.specs.Loads.{those, pick}
-use Rattle.loads.specs.Claims.{Ascend}
-use Rattle.loads.specs.Claims.Ascend.{no-more, one-more}
+use Rattle.loads.specs.Claims.{DigitsAscend}
+use Rattle.loads.specs.Claims.DigitsAscend.{no-more, one-more}
 
 -- a list that has a member is not empty
 pub some-member : (c : ℕ) (cs : List ℕ) → List·Memᴰ c cs → 0 < length cs
@@ -56,21 +56,21 @@ module _ (test : ℕ → Bool) where
       go false q (inr j) f = f j
 
   -- of a list that ascends they ascend
-  pub those-ascend : {m : ℕ} {cs : List ℕ} → Ascend m cs → Ascend m (those test cs)
+  pub those-ascend : {m : ℕ} {cs : List ℕ} → DigitsAscend m cs → DigitsAscend m (those test cs)
   unfolding those
   those-ascend no-more = no-more
   those-ascend {m} (one-more {c = c} {cs = cs} h a) = go (test c) (those-ascend a)
     where
-      below : {ds : List ℕ} → Ascend (c + 1) ds → Ascend m ds
+      below : {ds : List ℕ} → DigitsAscend (c + 1) ds → DigitsAscend m ds
       below no-more = no-more
       below (one-more {c = d} k b) = one-more (let e : m ≤ d = omega arith in e) b
 
-      go : (z : Bool) → Ascend (c + 1) (those test cs) → Ascend m (cond z (c ∷ those test cs) (those test cs))
+      go : (z : Bool) → DigitsAscend (c + 1) (those test cs) → DigitsAscend m (cond z (c ∷ those test cs) (those test cs))
       go true b = one-more h b
       go false b = below b
 
 -- three numbers of which each is below the next ascend
-pub three-ascend : (l : List ℕ) → length l ≡ 3 → getD l 0 0 < getD l 1 0 → getD l 1 0 < getD l 2 0 → Ascend 0 l
+pub three-ascend : (l : List ℕ) → length l ≡ 3 → getD l 0 0 < getD l 1 0 → getD l 1 0 < getD l 2 0 → DigitsAscend 0 l
 three-ascend [] k p q = absurd (omega arith)
 three-ascend (a ∷ []) k p q = absurd (omega arith)
 three-ascend (a ∷ (b ∷ [])) k p q = absurd (omega arith)
@@ -82,7 +82,7 @@ three-ascend (a ∷ (b ∷ (c ∷ []))) k p q =
 three-ascend (a ∷ (b ∷ (c ∷ (d ∷ l)))) k p q = absurd (omega arith)
 
 -- a member of a list that ascends from m on is at least m
-later : {m : ℕ} {cs : List ℕ} → Ascend m cs → (c : ℕ) → List·Memᴰ c cs → m ≤ c
+later : {m : ℕ} {cs : List ℕ} → DigitsAscend m cs → (c : ℕ) → List·Memᴰ c cs → m ≤ c
 later no-more c i = absurd (List·Memᴰ·not-nil i)
 later {m} (one-more {c = d} {cs = ds} h a) c i = go (later a c) (List·Memᴰ·cases-cons i)
   where
@@ -91,7 +91,7 @@ later {m} (one-more {c = d} {cs = ds} h a) c i = go (later a c) (List·Memᴰ·c
     go f (inr j) = omega (arith, f j)
 
 -- lists that ascend and have the same members are one
-pub one-list : {m k : ℕ} {cs ds : List ℕ} → Ascend m cs → Ascend k ds → ((x : ℕ) → List·Memᴰ x cs → List·Memᴰ x ds) → ((x : ℕ) → List·Memᴰ x ds → List·Memᴰ x cs) → cs ≡ ds
+pub one-list : {m k : ℕ} {cs ds : List ℕ} → DigitsAscend m cs → DigitsAscend k ds → ((x : ℕ) → List·Memᴰ x cs → List·Memᴰ x ds) → ((x : ℕ) → List·Memᴰ x ds → List·Memᴰ x cs) → cs ≡ ds
 one-list no-more no-more f g = refl
 one-list no-more (one-more {c = d} h b) f g = absurd (List·Memᴰ·not-nil (g d (List·Memᴰ·head refl)))
 one-list (one-more {c = c} h a) no-more f g = absurd (List·Memᴰ·not-nil (f c (List·Memᴰ·head refl)))
@@ -106,6 +106,6 @@ one-list (one-more {c = c} {cs = cs} h a) (one-more {c = d} {cs = ds} k b) f g =
     first (inr i) (inr j) = absurd (omega (arith, later b c i, later a d j))
 
     -- a later member is not the first of the other list
-    rest : (y : ℕ) {q : ℕ} {xs ys : List ℕ} → Ascend q xs → y < q → (x : ℕ) → List·Memᴰ x xs → (x ≡ y) ⊎ List·Memᴰ x ys → List·Memᴰ x ys
+    rest : (y : ℕ) {q : ℕ} {xs ys : List ℕ} → DigitsAscend q xs → y < q → (x : ℕ) → List·Memᴰ x xs → (x ≡ y) ⊎ List·Memᴰ x ys → List·Memᴰ x ys
     rest y a h x i (inl e) = absurd (omega (arith, later a x i))
     rest y a h x i (inr j) = j

@@ -16,10 +16,10 @@ use Rattle.ternary.specs.Text.{treeOf}
 use Rattle.ternary.specs.Wanted.{wantedAfter, wantedFrom, wanted}
 use Rattle.ternary.proofs.Wanted.{wanted-append, wanted-whole}
 use Rattle.loads.specs.Loads.{nextState, drawn, canEnd, allowed, pick, Drawing, digitAt, nextDrawing, digitsFrom, firstDrawing, isCount, load}
-use Rattle.loads.specs.Claims.{AllowedAre, Takes, stateAfter, Draws, IsCount, IsLoad}
+use Rattle.loads.specs.Claims.{AllowedAre, TakenFor, stateAfter, Draws, IsCount, IsLoad}
 use Rattle.loads.specs.Claims.IsLoad.{outside, inside}
 use Rattle.loads.proofs.Lists.{one-list}
-use Rattle.loads.proofs.Allowed.{can-end-exactly, some-allowed, pick-ends, allowed-are}
+use Rattle.loads.proofs.Allowed.{UsedUp, can-end-exactly, some-allowed, pick-ends, allowed-are}
 
 -- "draws once a digit" ([10]): the state is advanced once for every digit
 pub one-draw : (left : ℕ) (p : Drawing) → nextDrawing left p .state ≡ nextState (p .state)
@@ -41,7 +41,7 @@ from-ends : (n : ℕ) (p : Drawing) → canEnd n (p .wanted) ≡ true → wanted
 unfolding digitsFrom wantedFrom nextDrawing
 from-ends zero p h = go (can-end-exactly zero (p .wanted) .0 h)
   where
-    go : (r : List ℕ) × (length r ≡ 0) × (wantedFrom (p .wanted) r ≡ some 0) → p .wanted ≡ some 0
+    go : UsedUp zero (p .wanted) → p .wanted ≡ some 0
     go ([], k, e) = e
     go (c ∷ r, k, e) = absurd (omega arith)
 from-ends (suc n) p h = from-ends n (nextDrawing n p) (after-ends n p h)
@@ -59,29 +59,29 @@ wanted-next l left p e = wanted-append (some 1) l (digitAt left p ∷ []) ∙ ap
 module _ (n : ℕ) where
   -- the digits after a beginning are taken one by one
   from-takes : (left : ℕ) (p : Drawing) (l : List ℕ) → wanted l ≡ p .wanted → length l + left ≡ n → canEnd left (p .wanted) ≡ true
-      → (i : ℕ) → i < left → Takes n (l ++ take i (digitsFrom left p)) (drawn (stateAfter i (p .state))) (getD (digitsFrom left p) i 0)
+      → (i : ℕ) → i < left → TakenFor n (l ++ take i (digitsFrom left p)) (drawn (stateAfter i (p .state))) (getD (digitsFrom left p) i 0)
   unfolding digitsFrom digitAt stateAfter pick
   from-takes zero p l e k h i b = absurd (omega arith)
   from-takes (suc left) p l e k h zero b =
-      subst (λ (m : List ℕ). Takes n m (drawn (p .state)) (digitAt left p)) (sym (append-nil l))
+      subst (λ (m : List ℕ). TakenFor n m (drawn (p .state)) (digitAt left p)) (sym (append-nil l))
       (record {
         digits = allowed left (p .wanted);
-        allowed-are = subst (λ (o : Option ℕ). AllowedAre n l (allowed left o)) e (allowed-are n l left k);
-        some-allowed = some-allowed left (p .wanted) h;
+        all-allowed = subst (λ (o : Option ℕ). AllowedAre n l (allowed left o)) e (allowed-are n l left k);
+        not-empty = some-allowed left (p .wanted) h;
         taken = refl;
       })
   from-takes (suc left) p l e k h (suc i) b =
-      subst (λ (m : List ℕ). Takes n m (drawn (stateAfter i (nextState (p .state)))) (getD (digitsFrom left (nextDrawing left p)) i 0))
+      subst (λ (m : List ℕ). TakenFor n m (drawn (stateAfter i (nextState (p .state)))) (getD (digitsFrom left (nextDrawing left p)) i 0))
       (append-assoc l (digitAt left p ∷ []) (take i (digitsFrom left (nextDrawing left p))))
-      (subst (λ (s : ℕ). Takes n ((l ++ (digitAt left p ∷ [])) ++ take i (digitsFrom left (nextDrawing left p))) (drawn (stateAfter i s)) (getD (digitsFrom left (nextDrawing left p)) i 0)) (one-draw left p)
+      (subst (λ (s : ℕ). TakenFor n ((l ++ (digitAt left p ∷ [])) ++ take i (digitsFrom left (nextDrawing left p))) (drawn (stateAfter i s)) (getD (digitsFrom left (nextDrawing left p)) i 0)) (one-draw left p)
       (from-takes left (nextDrawing left p) (l ++ (digitAt left p ∷ [])) (wanted-next l left p e) (omega (arith, length-append l (digitAt left p ∷ []))) (after-ends left p h) i (omega arith)))
 
   -- of what is drawn after a beginning one digit is taken
-  one-digit : {l : List ℕ} {draw c d : ℕ} → Takes n l draw c → Takes n l draw d → c ≡ d
-  one-digit {l} {draw} {c} {d} x y =
+  one-taken : {l : List ℕ} {draw c d : ℕ} → TakenFor n l draw c → TakenFor n l draw d → c ≡ d
+  one-taken {l} {draw} {c} {d} x y =
       let e : x .digits ≡ y .digits =
-      one-list (x .allowed-are .ascending) (y .allowed-are .ascending) (λ z i. y .allowed-are .exactly z .1 (x .allowed-are .exactly z .0 i))
-      (λ z i. x .allowed-are .exactly z .1 (y .allowed-are .exactly z .0 i)) in
+      one-list (x .all-allowed .ascending) (y .all-allowed .ascending) (λ z i. y .all-allowed .exactly z .1 (x .all-allowed .exactly z .0 i))
+      (λ z i. x .all-allowed .exactly z .1 (y .all-allowed .exactly z .0 i)) in
       x .taken ∙ ap (λ (cs : List ℕ). getD cs (draw % length cs) 0) e ∙ sym (y .taken)
 
 from-draws : (seed n : ℕ) → 1 ≤ n → Draws seed n (digitsFrom n (firstDrawing seed))
@@ -99,7 +99,7 @@ one-drawing seed n l m x y = sym (all (x .many)) ∙ same n (omega arith) ∙ al
     same zero h = refl
     same (suc i) h =
         let p = same i (omega arith) in
-        let q : getD l i 0 ≡ getD m i 0 = one-digit n (x .each i (omega arith)) (subst (λ (k : List ℕ). Takes n k (drawn (stateAfter i seed)) (getD m i 0)) (sym p) (y .each i (omega arith))) in
+        let q : getD l i 0 ≡ getD m i 0 = one-taken n (x .each i (omega arith)) (subst (λ (k : List ℕ). TakenFor n k (drawn (stateAfter i seed)) (getD m i 0)) (sym p) (y .each i (omega arith))) in
         take-suc l i 0 (omega (arith, x .many)) ∙ ap (λ (k : List ℕ). k ++ (getD l i 0 ∷ [])) p ∙ ap (λ (c : ℕ). take i m ++ (c ∷ [])) q ∙ sym (take-suc m i 0 (omega (arith, y .many)))
 
 -- the test of n is what the paper says of it
@@ -141,11 +141,19 @@ module _ (seed n : ℕ) where
   pub load-many : IsCount n → length (load seed n) ≡ n
   load-many k = ap length (load-inside k) ∙ from-many n (firstDrawing seed)
 
-  -- and is empty for no other n than those outside.
+  -- and is empty exactly for n outside 1 to 4,095.
   pub load-empty : (load seed n ≡ []) ↔ (IsCount n → ⊥)
   load-empty = (λ e k. absurd (omega (arith, k .from-one, load-many k, ap length e)), load-outside)
 
-  -- "Every nonempty load is a whole text" ([10])
+  -- "Every nonempty load" ([10]): those of n from 1 to 4,095
+  pub load-nonempty : (load seed n ≡ [] → ⊥) ↔ IsCount n
+  load-nonempty = (λ h. case h (count-case n), λ k e. load-empty .0 e k)
+    where
+      case : (load seed n ≡ [] → ⊥) → Count n → IsCount n
+      case h (is k) = k
+      case h (is-not g) = absurd (h (load-outside g))
+
+  -- "is a whole text" ([10])
   pub load-whole : IsCount n → (t : Tree) × (treeOf (load seed n) ≡ some t)
   unfolding wanted firstDrawing
   load-whole k = wanted-whole (load seed n) .0 (ap (wantedFrom (some 1)) (load-inside k) ∙ from-ends n (firstDrawing seed) (start-ends seed n (k .from-one)))

@@ -8,11 +8,11 @@ use native.Mathlib.Omega.{arith}
 use lib.ListN.{length, drop}
 use lib.Dec.{leb}
 use borrow.Author.Tests.{leb-true, leb-false, le-leb, lt-leb}
-use Rattle.table.specs.Outcome.{Outcome, wholeOut}
+use Rattle.table.specs.Outcome.{Outcome, wholeOut, intoOut}
 use Rattle.table.specs.declared.Refusal.the-variants.{Out}
 use Rattle.ternary.specs.declared.Written.{Written}
 use Rattle.ternary.specs.declared.Written.the-variants.{Digits, Refused}
-use Rattle.loads.specs.Loads.{digitsFrom, firstDrawing, load, loadInto, generate}
+use Rattle.loads.specs.Loads.{digitsFrom, firstDrawing, load, generate}
 use Rattle.loads.specs.Claims.{IsCount, Generates}
 use Rattle.loads.specs.Claims.Generates.{empty, no-room, written}
 use Rattle.loads.proofs.Loads.{Count, count-case, load-inside, load-outside, load-many, load-draws, draws-load}
@@ -21,15 +21,15 @@ use Rattle.loads.proofs.Loads.Count.{is, is-not}
 module _ (seed n : ℕ) (out : List ℕ) where
   -- one law for each way that an answer is given
   pub generate-empty : (IsCount n → ⊥) → generate seed n out ≡ wholeOut (Digits 0) [] [] out
-  unfolding generate loadInto
+  unfolding generate intoOut
   generate-empty h = rw (load-outside seed n h, le-leb 0 (length out) (omega arith))
 
   pub generate-short : IsCount n → length out < n → generate seed n out ≡ wholeOut (Refused Out) [] [] out
-  unfolding generate loadInto
+  unfolding generate intoOut
   generate-short k h = rw (load-many seed n k, lt-leb n (length out) h)
 
   pub generate-written : IsCount n → n ≤ length out → generate seed n out ≡ wholeOut (Digits n) [] [] (load seed n ++ drop n out)
-  unfolding generate loadInto
+  unfolding generate intoOut
   generate-written k h = rw (load-many seed n k, le-leb n (length out) h)
 
   -- the same with the digits written one by one

@@ -5,12 +5,12 @@ use mathlib.Core.Bool.{true, false}
 use mathlib.Core.List.{[], _∷_, map}
 use mathlib.Core.Option.{none, some}
 use lib.ListN.{replicate}
-use Rattle.table.specs.Outcome.{wholeOut}
+use Rattle.table.specs.Outcome.{wholeOut, intoOut}
 use Rattle.table.specs.Refusal.{number}
 use Rattle.table.specs.declared.Refusal.the-variants.{Out}
 use Rattle.ternary.specs.Wanted.{wantedAfter}
 use Rattle.ternary.specs.declared.Written.the-variants.{Digits, Refused}
-use Rattle.loads.specs.Loads.{nextState, drawn, canEnd, those, threeDigits, allowed, pick, digitAt, nextDrawing, digitsFrom, firstDrawing, isCount, load, loadInto, generate, generatedNumbers}
+use Rattle.loads.specs.Loads.{nextState, drawn, canEnd, those, threeDigits, allowed, pick, digitAt, nextDrawing, digitsFrom, firstDrawing, isCount, load, generate, generatedNumbers}
 use Rattle.loads.specs.Claims.{stateAfter}
 
 -- the states after one to four draws from the seed 0, and the numbers that these draw: each state is kept to 32 bits
@@ -49,7 +49,7 @@ two-draws = refl
 pub outcomes : (generate 0 0 (7 ∷ []) ≡ wholeOut (Digits 0) [] [] (7 ∷ [])) × (generate 0 4096 [] ≡ wholeOut (Digits 0) [] [] [])
     × (generate 0 2 (7 ∷ []) ≡ wholeOut (Refused Out) [] [] (7 ∷ []))
     × (generate 4294967295 5 (replicate 7 7) ≡ wholeOut (Digits 5) [] [] (50 ∷ 50 ∷ 48 ∷ 48 ∷ 48 ∷ 7 ∷ 7 ∷ []))
-unfolding generate loadInto load isCount digitsFrom firstDrawing nextDrawing digitAt pick allowed those threeDigits canEnd wantedAfter drawn nextState
+unfolding generate intoOut load isCount digitsFrom firstDrawing nextDrawing digitAt pick allowed those threeDigits canEnd wantedAfter drawn nextState
 outcomes = (refl, refl, refl, refl)
 
 -- 4,095 is the last number of digits, and 4,096 is outside

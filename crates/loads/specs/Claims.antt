@@ -23,20 +23,20 @@ abbrev pub Allowed : ℕ → List ℕ → ℕ → Type 0
 Allowed n l c = (r : List ℕ) × Completes l (c ∷ r) × (length (l ++ (c ∷ r)) ≡ n)
 
 -- numbers "in ascending order" ([10]), the first at least m
-pub data Ascend : ℕ → List ℕ → Type 0 where
-  no-more : {m : ℕ} → Ascend m []
-  one-more : {m c : ℕ} {cs : List ℕ} → m ≤ c → Ascend (c + 1) cs → Ascend m (c ∷ cs)
+pub data DigitsAscend : ℕ → List ℕ → Type 0 where
+  no-more : {m : ℕ} → DigitsAscend m []
+  one-more : {m c : ℕ} {cs : List ℕ} → m ≤ c → DigitsAscend (c + 1) cs → DigitsAscend m (c ∷ cs)
 
 -- "digits allowed there, in ascending order" ([10]): cs are all that are allowed after the digits l, and no others
 pub record AllowedAre (n : ℕ) (l cs : List ℕ) : Type 0 where
   pub exactly : (c : ℕ) → List·Memᴰ c cs ↔ Allowed n l c
-  pub ascending : Ascend 0 cs
+  pub ascending : DigitsAscend 0 cs
 
 -- "takes the remainder by the number of digits allowed there" ([10]): the digit c after the digits l, for what is drawn
-pub record Takes (n : ℕ) (l : List ℕ) (draw c : ℕ) : Type 0 where
+pub record TakenFor (n : ℕ) (l : List ℕ) (draw c : ℕ) : Type 0 where
   pub digits : List ℕ
-  pub allowed-are : AllowedAre n l digits
-  pub some-allowed : 0 < length digits
+  pub all-allowed : AllowedAre n l digits
+  pub not-empty : 0 < length digits
   pub taken : c ≡ getD digits (draw % length digits) 0
 
 -- "From a 32-bit seed" ([10]): the state after so many draws
@@ -47,7 +47,7 @@ stateAfter (suc k) seed = stateAfter k (nextState seed)
 -- "draws once a digit, left to right" ([10]): l is n digits, and digit i, counting from 0, is taken for what is drawn after i draws.
 pub record Draws (seed n : ℕ) (l : List ℕ) : Type 0 where
   pub many : length l ≡ n
-  pub each : (i : ℕ) → i < n → Takes n (take i l) (drawn (stateAfter i seed)) (getD l i 0)
+  pub each : (i : ℕ) → i < n → TakenFor n (take i l) (drawn (stateAfter i seed)) (getD l i 0)
 
 -- "n from 1 to 4,095" ([10])
 pub record IsCount (n : ℕ) : Type 0 where

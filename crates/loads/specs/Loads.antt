@@ -2,13 +2,12 @@
 -- these are definitions.
 use Prim.Native.Nat.{ℕ, zero, suc, _+_, _*_, _/_, _%_}
 use mathlib.Core.Bool.{Bool, false, cond, _&&_}
-use mathlib.Core.List.{List, [], _∷_, _++_}
+use mathlib.Core.List.{List, [], _∷_}
 use mathlib.Core.Option.{Option, none, some}
-use lib.ListN.{length, getD, drop}
+use lib.ListN.{length, getD}
 use lib.Dec.{leb, eqb}
-use Rattle.table.specs.Outcome.{Outcome, wholeOut}
+use Rattle.table.specs.Outcome.{Outcome, intoOut}
 use Rattle.table.specs.Refusal.{number}
-use Rattle.table.specs.declared.Refusal.the-variants.{Out}
 use Rattle.ternary.specs.Wanted.{wantedAfter}
 use Rattle.ternary.specs.declared.Written.{Written}
 use Rattle.ternary.specs.declared.Written.the-variants.{Digits, Refused}
@@ -77,13 +76,10 @@ isCount n = leb 1 n && leb n 4095
 unfoldable pub load : ℕ → ℕ → List ℕ
 load seed n = cond (isCount n) (digitsFrom n (firstDrawing seed)) []
 
--- "an output shorter than n gives 10 and stays as it was" ([10]), where the load is not empty: the load l, or 10. "out bytes past what is written stay" ([3]).
-unfoldable pub loadInto : List ℕ → List ℕ → Outcome Written
-loadInto l out = cond (leb (length l) (length out)) (wholeOut (Digits (length l)) [] [] (l ++ drop (length l) out)) (wholeOut (Refused Out) [] [] out)
-
--- generate the load of a seed into the out bytes
+-- "For any n outside, the load is empty, whatever the output. Otherwise an output shorter than n gives 10 and stays as it was." ([10]): an empty load goes into
+-- every output.
 unfoldable pub generate : ℕ → ℕ → List ℕ → Outcome Written
-generate seed n out = loadInto (load seed n) out
+generate seed n out = intoOut Digits Refused (load seed n) out
 
 -- the numbers of the answer: the refusal or 0, and how many digits were written; "0 for [..] digits" on a refusal (document 01, Operations)
 unfoldable pub generatedNumbers : Written → List ℕ

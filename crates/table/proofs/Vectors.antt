@@ -1,4 +1,4 @@
--- Worked examples: the numbers of refusals and answers, which no theorem pins; nodes found, made in order or without a place; nodes that are equal. Assumes
+-- Worked examples: the numbers of refusals and answers, which no theorem pins; bytes into out; nodes found, made in order or without a place; nodes that are equal. Assumes
 -- nothing.
 use Prim.Native.Nat.{ℕ}
 use mathlib.Core.Path.{_≡_, refl}
@@ -7,6 +7,7 @@ use mathlib.Core.List.{List, [], _∷_, map}
 use lib.ListN.{replicate}
 use Rattle.calculus.specs.Tree.{Tree, leaf, stem, fork}
 use Rattle.table.specs.Nodes.{Table, Placed, got, full, broken, hasWords, find, isNone, sound, newNode, orNew, make, andThen, lay}
+use Rattle.table.specs.Outcome.{wholeOut, intoOut}
 use Rattle.table.specs.Refusal.{number, refusedNumbers, madeNumbers, givenNumbers, clears}
 use Rattle.table.specs.Same.{sameNumbers}
 use Rattle.table.specs.declared.Compared.the-variants as compared
@@ -32,6 +33,12 @@ pub answers : (madeNumbers 5 (Refused Nodes) ≡ record { refusal = 8; node = 0;
     × (madeNumbers 5 (made.Node 6 7) ≡ record { refusal = 0; node = 6; used = 7; steps = 0; digits = 0 })
 unfolding madeNumbers refusedNumbers number
 answers = (refl, refl)
+
+-- two bytes into one, two and three out bytes, with the answer as a number: 10, and the byte stays; 2; 2, and the third byte stays
+pub into-out : map (intoOut (λ (n : ℕ). n) number (1 ∷ 2 ∷ [])) ((7 ∷ []) ∷ (7 ∷ 8 ∷ []) ∷ (7 ∷ 8 ∷ 9 ∷ []) ∷ [])
+    ≡ wholeOut 10 [] [] (7 ∷ []) ∷ wholeOut 2 [] [] (1 ∷ 2 ∷ []) ∷ wholeOut 2 [] [] (1 ∷ 2 ∷ 9 ∷ []) ∷ []
+unfolding intoOut number
+into-out = refl
 
 -- 2010 where node 0 is a leaf: the leaf of the second branch is there, its stem is made, the leaf of the first is there, then their fork is made
 pub shared : lay (record { words = replicate 8 0; used = 1 }) (fork leaf (stem leaf))

@@ -2,15 +2,15 @@
 -- Assumes nothing: these are definitions.
 use Prim.Native.Nat.{ℕ, _-_, _*_, _/_, _≤_}
 use mathlib.Core.Path.{_≡_}
-use mathlib.Core.Bool.{Bool, true, false, cond, _&&_}
-use mathlib.Core.List.{List, [], _∷_}
+use mathlib.Core.Bool.{Bool, true, cond, _&&_}
+use mathlib.Core.List.{List, [], _++_}
 use mathlib.Core.Option.{Option, none, some}
-use lib.ListN.{length, replicate}
+use lib.ListN.{length, replicate, drop}
 use lib.Dec.{leb, ltb}
 use Rattle.calculus.specs.Tree.{Tree}
 use Rattle.table.specs.Nodes.{Table, Placed, Making, got, full, capacity, sound, Sound, lay, cleared}
 use Rattle.table.specs.declared.Refusal.{Refusal}
-use Rattle.table.specs.declared.Refusal.the-variants.{Limits, Broken, Nodes, Frames}
+use Rattle.table.specs.declared.Refusal.the-variants.{Limits, Broken, Nodes, Frames, Out}
 use Rattle.table.specs.declared.Made.{Made}
 use Rattle.table.specs.declared.Made.the-variants
 
@@ -31,6 +31,12 @@ answered f x = wholeOut (f (x .answer)) (x .table) (x .stack) (x .out)
 -- of an operation that is lent no out bytes
 abbrev pub whole : {A : Type 0} → A → List ℕ → List ℕ → Outcome A
 whole a w s = wholeOut a w s []
+
+-- The bytes l into out, by an operation that is lent nothing else: 10 where out is shorter, which then stays; "out bytes past what is written stay" ([3]).
+-- The answers are by how many bytes are written and by a refusal.
+unfoldable pub intoOut : {A : Type 0} → (ℕ → A) → (Refusal → A) → List ℕ → List ℕ → Outcome A
+intoOut many refused l out =
+    cond (leb (length l) (length out)) (wholeOut (many (length l)) [] [] (l ++ drop (length l) out)) (wholeOut (refused Out) [] [] out)
 
 -- "The stack is a lent run of at most 65,536 32-bit words, three a frame, rounded down." (Trees and their table)
 abbrev pub frames : List ℕ → ℕ

@@ -2,7 +2,7 @@
 // Read the crates `reader` and `read`, Write the crate `writer`.
 use table::Refusal;
 
-// Write's answer: how many digits were written.
+// Write's answer, and `generate`'s: how many digits were written.
 pub enum Written {
     Digits(usize),
     Refused(Refusal),

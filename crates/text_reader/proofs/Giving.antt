@@ -14,7 +14,7 @@ use Rattle.calculus.specs.Term.{Term, ClosedUnder, nesting}
 use Rattle.calculus.specs.Bytes.{bytes, rule}
 use Rattle.calculus.proofs.Rule.{rule-exact}
 use Rattle.table.proofs.Words.{zero-one}
-use Rattle.table.specs.Outcome.{Outcome, wholeOut}
+use Rattle.table.specs.Outcome.{Outcome, wholeOut, intoOut}
 use Rattle.table.specs.declared.Refusal.the-variants.{Rule, Out, RuleText}
 use Rattle.grammar.specs.Expression.{Expression, leaf, var, app, abs, not, and, or, implies}
 use Rattle.grammar.specs.Meaning.{termOf, K, I, stemOfStem, andTree, orTree, impliesTree, notTree}
@@ -22,7 +22,7 @@ use Rattle.grammar.specs.Postfix.{total, abstractions}
 use Rattle.grammar.specs.Reader.{nothing, read, empty, parse}
 use Rattle.grammar.specs.Words.{tokens, token, lex}
 use Rattle.grammar.specs.Text.{allRead, ofWords, readText}
-use Rattle.grammar.specs.Outcome.{intoOut, ofBytes, ofReading, ruleText}
+use Rattle.grammar.specs.Outcome.{ofBytes, ofReading, ruleText}
 use Rattle.grammar.specs.declared.Encoded.{Encoded}
 use Rattle.grammar.specs.declared.Encoded.the-variants.{Bytes, Refused}
 use Rattle.grammar.proofs.Exact.{bytes-no-rule}

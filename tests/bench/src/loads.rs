@@ -12,7 +12,7 @@ const GOAL: f64 = 1.5;
 const DIGITS: [usize; 6] = [100, 250, 500, 1_000, 2_000, 4_095];
 
 /// Two seeds that follow each other differ by this.
-const STEP: u32 = 0x9e37_79b9;
+const SEEDS_APART: u32 = 0x9e37_79b9;
 
 /// What makes a load: refusal, and the digits written.
 type Generate = fn(u32, usize, &mut [u8]) -> [usize; 2];
@@ -28,7 +28,7 @@ const BOTH: [(&str, Generate); 2] = [("engine", engine), ("plain Rust", plain::g
 /// Both make the same loads of so many digits.
 fn check(digits: usize) {
     for k in 0..100 {
-        let seed = STEP.wrapping_mul(k);
+        let seed = SEEDS_APART.wrapping_mul(k);
         let [engine, plain] = BOTH.map(|(_, generate)| {
             let mut out = vec![0; digits];
             assert_eq!(generate(seed, digits, &mut out), [0, digits]);
@@ -42,7 +42,7 @@ fn check(digits: usize) {
 fn making((name, generate): (&'static str, Generate), digits: usize) -> Contender<'static> {
     let (mut seed, mut out) = (0_u32, vec![0; digits]);
     contender(name, move || {
-        seed = seed.wrapping_add(STEP);
+        seed = seed.wrapping_add(SEEDS_APART);
         assert_eq!(generate(seed, digits, &mut out), [0, digits]);
         black_box(&out);
     })
@@ -60,7 +60,7 @@ fn costs(times: &[Times], of: Of) -> Vec<f64> {
 }
 
 /// The cost of a digit where it is largest, as a ratio of where it is smallest.
-fn flatness(times: &[Times], of: Of) -> f64 {
+fn largest_to_smallest(times: &[Times], of: Of) -> f64 {
     let costs = costs(times, of);
     let largest = costs.iter().copied().fold(0.0, f64::max);
     largest / costs.into_iter().fold(f64::INFINITY, f64::min)
@@ -95,7 +95,7 @@ pub fn loads() {
     println!("\n| ns a digit, largest to smallest | Best | Median | Goal |");
     println!("|---|---|---|---|");
     for (times, goal) in [(engine, Some(GOAL)), (other, None)] {
-        let [best, median] = [Times::best, Times::median].map(|of| flatness(times, of));
+        let [best, median] = [Times::best, Times::median].map(|of| largest_to_smallest(times, of));
         let goal = goal.map_or("none".to_string(), |goal| {
             let met = if best <= goal { "met" } else { "missed" };
             format!("at most {goal}: {met}")

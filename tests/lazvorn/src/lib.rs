@@ -601,7 +601,8 @@ pub fn rule_text(text: &[u8], out: &mut [u8]) -> TextNumbers {
 }
 
 /// Makes a load from a seed and writes it to `out`: the text of a whole tree of so many digits, the same for
-/// the same seed and count. A count outside 1 to 4,095 gives an empty load, whatever `out` is.
+/// the same seed and count. A count outside 1 to 4,095 gives an empty load, whatever `out` is; then fewer bytes
+/// than digits are 10, and `out` stays.
 pub fn generate(seed: u32, digits: usize, out: &mut [u8]) -> LoadNumbers {
     let mut answer = [usize::MAX; 2];
     unsafe { raw::lazvorn_generate(seed, digits, out.as_mut_ptr(), out.len(), &mut answer) };

@@ -3,12 +3,12 @@
 use Prim.Native.Nat.{_-_}
 use native.Mathlib.Omega.{arith}
 use Rattle.generator.proofs.Between.{wanted-between}
-use Rattle.generator.proofs.Writing.{Writing, writing-start, writing-length, digit-ends, wants-one, writing-digit, writing-done}
+use Rattle.generator.proofs.Writing.{WritingLoad, writing-start, writing-length, digit-ends, wants-one, writing-digit, writing-done}
 use Rattle.generator.proofs.write_load.Statement.{statement}
 use Rattle.generator.proofs.write_load.Tie as tie
 
 abbrev Inv-loop : tie.InvT-loop
-Inv-loop seed n out₀ state₀ wanted₀ i₀ out state wanted i = Writing seed n out₀ i state wanted out
+Inv-loop seed n out₀ state₀ wanted₀ i₀ out state wanted i = WritingLoad seed n out₀ i state wanted out
 
 abbrev μ-loop : tie.MeasureT-loop
 μ-loop seed n out₀ state₀ wanted₀ i₀ out state wanted i = n - i
