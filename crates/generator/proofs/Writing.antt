@@ -4,11 +4,11 @@ use mathlib.Core.Path.{_≡_, refl, sym, ap, subst, _∙_}
 use mathlib.Core.Bool.{true}
 use mathlib.Core.List.{List, [], _∷_, _++_, append-nil, append-assoc}
 use mathlib.Core.Option.{some}
-use native.Mathlib.Numerals.{add-one}
 use native.Mathlib.Omega.{arith}
 use native.Mathlib.Nat.{mod-lt}
 use lib.ListN.{length, getD, set, drop, length-append, length-drop}
-use lib.Seq.{drop-cons, set-at}
+use lib.Seq.{set-at}
+use Rattle.table.proofs.Lists.{from-place}
 use Rattle.ternary.proofs.Wanted.{after-digit}
 use Rattle.loads.specs.Loads.{nextState, drawn, canEnd, allowed, pick, Drawing, digitAt, nextDrawing, digitsFrom, firstDrawing}
 use Rattle.loads.proofs.Loads.{after-ends, start-ends}
@@ -65,7 +65,7 @@ module _ {seed n : ℕ} {out₀ : List ℕ} {i s w : ℕ} {out : List ℕ} (x : 
         let p = next-drawing left s w b (λ q. omega (arith, wants-one)) t in
         let q : n - (i + 1) ≡ left = omega arith in
         let r : digitsFrom (n - i) (drawingOf s w) ≡ (48 + b) ∷ digitsFrom left (drawingOf (nextState s) (w - 1 + b)) = rw (one-more, p, ← t .0) in
-        let e : drop i out₀ ≡ getD out₀ i 0 ∷ drop (i + 1) out₀ = drop-cons out₀ i 0 k ∙ ap (λ (j : ℕ). getD out₀ i 0 ∷ drop j out₀) (sym (add-one i)) in
+        let e = from-place out₀ i 0 k in
         record {
           inside = omega arith;
           small = mod-lt _ (omega arith);

@@ -1,20 +1,19 @@
 -- The tokens of words, from a place on. Assumes nothing.
 use Prim.Native.Nat.{ℕ, suc, _+_, _≤_, _<_}
-use mathlib.Core.Path.{_≡_, refl, sym, ap, _∙_}
+use mathlib.Core.Path.{_≡_, refl, ap, _∙_}
 use mathlib.Core.Bool.{Bool, true, false, cond}
 use mathlib.Core.List.{List, [], _∷_}
-use native.Mathlib.Numerals.{add-one}
 use lib.ListN.{length, getD, drop, drop-of-length-le}
-use lib.Seq.{drop-cons}
 use lib.Dec.{eqb}
 use borrow.Author.Tests.{eqb-true}
+use Rattle.table.proofs.Lists.{from-place}
 use Rattle.grammar.specs.Tokens.{Token, caret, name, opening, closing, backslash, stop, bang, ampersand, bar, arrow, Sign}
 use Rattle.grammar.specs.Words.{token, tokens}
 use Rattle.grammar.proofs.Spelled.{sign-token}
 
 pub tokens-at : (ws : List ℕ) (at : ℕ) → at < length ws → tokens (drop at ws) ≡ token (getD ws at 0) ∷ tokens (drop (at + 1) ws)
 unfolding tokens
-tokens-at ws at h = ap tokens (drop-cons ws at 0 h) ∙ ap (λ (n : ℕ). token (getD ws at 0) ∷ tokens (drop n ws)) (sym (add-one at))
+tokens-at ws at h = ap tokens (from-place ws at 0 h)
 
 pub tokens-end : (ws : List ℕ) (at : ℕ) → length ws ≤ at → tokens (drop at ws) ≡ []
 unfolding tokens

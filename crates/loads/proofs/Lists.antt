@@ -1,5 +1,5 @@
 -- Laws of lists of digits: members, those for which a test holds, lists that ascend. Assumes nothing.
-use Prim.Native.Nat.{ℕ, zero, suc, _+_, _%_, _≤_, _<_}
+use Prim.Native.Nat.{ℕ, _+_, _%_, _≤_, _<_}
 use mathlib.Core.Path.{_≡_, refl, sym, ap, _∙_}
 use mathlib.Core.Bool.{Bool, true, false, cond}
 use mathlib.Core.List.{List, [], _∷_, List·Memᴰ, List·Memᴰ·head, List·Memᴰ·tail, List·Memᴰ·not-nil, List·Memᴰ·cases-cons}
@@ -7,6 +7,7 @@ use mathlib.Core.Logic.{_⊎_, inl, inr}
 use native.Mathlib.Omega.{arith}
 use native.Mathlib.Nat.{mod-lt}
 use lib.ListN.{length, getD}
+use Rattle.table.proofs.Lists.{at-place}
 use Rattle.table.proofs.Words.{told-apart}
 use Rattle.loads.specs.Loads.{those, pick}
 use Rattle.loads.specs.Claims.{DigitsAscend}
@@ -17,16 +18,10 @@ pub some-member : (c : ℕ) (cs : List ℕ) → List·Memᴰ c cs → 0 < length
 some-member c [] i = absurd (List·Memᴰ·not-nil i)
 some-member c (d ∷ cs) i = omega arith
 
--- what stands at a place within a list's length is a member of it
-at-place : (cs : List ℕ) (i : ℕ) → i < length cs → List·Memᴰ (getD cs i 0) cs
-at-place [] i h = absurd (omega arith)
-at-place (c ∷ cs) zero h = List·Memᴰ·head refl
-at-place (c ∷ cs) (suc i) h = List·Memᴰ·tail (at-place cs i (omega arith))
-
--- and so is what is picked
+-- what is picked is a member
 pub pick-member : (cs : List ℕ) (draw : ℕ) → 0 < length cs → List·Memᴰ (pick cs draw) cs
 unfolding pick
-pick-member cs draw h = at-place cs (draw % length cs) (mod-lt draw h)
+pick-member cs draw h = at-place cs (draw % length cs) 0 (mod-lt draw h)
 
 module _ (test : ℕ → Bool) where
   -- the members for which a test holds are members, and it holds for them

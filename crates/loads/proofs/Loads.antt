@@ -60,7 +60,7 @@ module _ (n : ℕ) where
   -- the digits after a beginning are taken one by one
   from-takes : (left : ℕ) (p : Drawing) (l : List ℕ) → wanted l ≡ p .wanted → length l + left ≡ n → canEnd left (p .wanted) ≡ true
       → (i : ℕ) → i < left → TakenFor n (l ++ take i (digitsFrom left p)) (drawn (stateAfter i (p .state))) (getD (digitsFrom left p) i 0)
-  unfolding digitsFrom digitAt stateAfter pick
+  unfolding digitsFrom nextDrawing digitAt stateAfter pick
   from-takes zero p l e k h i b = absurd (omega arith)
   from-takes (suc left) p l e k h zero b =
       subst (λ (m : List ℕ). TakenFor n m (drawn (p .state)) (digitAt left p)) (sym (append-nil l))
@@ -73,8 +73,7 @@ module _ (n : ℕ) where
   from-takes (suc left) p l e k h (suc i) b =
       subst (λ (m : List ℕ). TakenFor n m (drawn (stateAfter i (nextState (p .state)))) (getD (digitsFrom left (nextDrawing left p)) i 0))
       (append-assoc l (digitAt left p ∷ []) (take i (digitsFrom left (nextDrawing left p))))
-      (subst (λ (s : ℕ). TakenFor n ((l ++ (digitAt left p ∷ [])) ++ take i (digitsFrom left (nextDrawing left p))) (drawn (stateAfter i s)) (getD (digitsFrom left (nextDrawing left p)) i 0)) (one-draw left p)
-      (from-takes left (nextDrawing left p) (l ++ (digitAt left p ∷ [])) (wanted-next l left p e) (omega (arith, length-append l (digitAt left p ∷ []))) (after-ends left p h) i (omega arith)))
+      (from-takes left (nextDrawing left p) (l ++ (digitAt left p ∷ [])) (wanted-next l left p e) (omega (arith, length-append l (digitAt left p ∷ []))) (after-ends left p h) i (omega arith))
 
   -- of what is drawn after a beginning one digit is taken
   one-taken : {l : List ℕ} {draw c d : ℕ} → TakenFor n l draw c → TakenFor n l draw d → c ≡ d
@@ -112,16 +111,12 @@ unfolding isCount
 is-count n k = rw (le-leb 1 n (k .from-one), le-leb n 4095 (k .to-most))
 
 -- a number of digits is from 1 to 4,095, or outside
-pub data Count (n : ℕ) : Type 0 where
-  is : IsCount n → Count n
-  is-not : (IsCount n → ⊥) → Count n
-
-pub count-case : (n : ℕ) → Count n
+pub count-case : (n : ℕ) → Dec (IsCount n)
 count-case n = go (isCount n) refl
   where
-    go : (z : Bool) → isCount n ≡ z → Count n
-    go true p = is (count-is n p)
-    go false p = is-not (λ k. told-apart (is-count n k) p)
+    go : (z : Bool) → isCount n ≡ z → Dec (IsCount n)
+    go true p = yes (count-is n p)
+    go false p = no (λ k. told-apart (is-count n k) p)
 
 module _ (seed n : ℕ) where
   -- the load by its two cases
@@ -149,9 +144,9 @@ module _ (seed n : ℕ) where
   pub load-nonempty : (load seed n ≡ [] → ⊥) ↔ IsCount n
   load-nonempty = (λ h. case h (count-case n), λ k e. load-empty .0 e k)
     where
-      case : (load seed n ≡ [] → ⊥) → Count n → IsCount n
-      case h (is k) = k
-      case h (is-not g) = absurd (h (load-outside g))
+      case : (load seed n ≡ [] → ⊥) → Dec (IsCount n) → IsCount n
+      case h (yes k) = k
+      case h (no g) = absurd (h (load-outside g))
 
   -- "is a whole text" ([10])
   pub load-whole : IsCount n → (t : Tree) × (treeOf (load seed n) ≡ some t)
@@ -168,9 +163,9 @@ module _ (seed n : ℕ) where
   pub load-exactly : (l : List ℕ) → (load seed n ≡ l) ↔ IsLoad seed n l
   load-exactly l = (λ e. subst (IsLoad seed n) e (case (count-case n)), only l)
     where
-      case : Count n → IsLoad seed n (load seed n)
-      case (is k) = inside k (load-draws k)
-      case (is-not h) = subst (IsLoad seed n) (sym (load-outside h)) (outside h)
+      case : Dec (IsCount n) → IsLoad seed n (load seed n)
+      case (yes k) = inside k (load-draws k)
+      case (no h) = subst (IsLoad seed n) (sym (load-outside h)) (outside h)
 
       only : (l : List ℕ) → IsLoad seed n l → load seed n ≡ l
       only l (outside h) = load-outside h

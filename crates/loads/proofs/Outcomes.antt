@@ -15,8 +15,7 @@ use Rattle.ternary.specs.declared.Written.the-variants.{Digits, Refused}
 use Rattle.loads.specs.Loads.{digitsFrom, firstDrawing, load, generate}
 use Rattle.loads.specs.Claims.{IsCount, Generates}
 use Rattle.loads.specs.Claims.Generates.{empty, no-room, written}
-use Rattle.loads.proofs.Loads.{Count, count-case, load-inside, load-outside, load-many, load-draws, draws-load}
-use Rattle.loads.proofs.Loads.Count.{is, is-not}
+use Rattle.loads.proofs.Loads.{count-case, load-inside, load-outside, load-many, load-draws, draws-load}
 
 module _ (seed n : ℕ) (out : List ℕ) where
   -- one law for each way that an answer is given
@@ -39,10 +38,10 @@ module _ (seed n : ℕ) (out : List ℕ) where
   generate-case : Generates seed n out (generate seed n out)
   generate-case = go (count-case n) (leb n (length out)) refl
     where
-      go : Count n → (z : Bool) → leb n (length out) ≡ z → Generates seed n out (generate seed n out)
-      go (is-not h) z q = empty h (generate-empty h)
-      go (is k) false q = let h : length out < n = leb-false n (length out) q in no-room k h (generate-short k h)
-      go (is k) true q = let h : n ≤ length out = leb-true n (length out) q in written k h (load-draws seed n k) (generate-written k h)
+      go : Dec (IsCount n) → (z : Bool) → leb n (length out) ≡ z → Generates seed n out (generate seed n out)
+      go (no h) z q = empty h (generate-empty h)
+      go (yes k) false q = let h : length out < n = leb-false n (length out) q in no-room k h (generate-short k h)
+      go (yes k) true q = let h : n ≤ length out = leb-true n (length out) q in written k h (load-draws seed n k) (generate-written k h)
 
   -- Each outcome comes exactly on its condition: the empty load for n outside 1 to 4,095, then 10, then the load with the bytes past it as they were.
   pub generate-exactly : (o : Outcome Written) → (generate seed n out ≡ o) ↔ Generates seed n out o

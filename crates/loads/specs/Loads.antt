@@ -54,8 +54,8 @@ pub record Drawing : Type 0 where
 unfoldable pub digitAt : ℕ → Drawing → ℕ
 digitAt left p = pick (allowed left (p .wanted)) (drawn (p .state))
 
--- "draws once a digit" ([10]): what the next digit goes by. A draw is made for each digit, also where only one is allowed; no load shows that, since from there on
--- only one is.
+-- "draws once a digit" ([10]): what the next digit goes by. A draw is made for each digit, also where only one is allowed; no load shows that, since from
+-- there on only one is.
 unfoldable pub nextDrawing : ℕ → Drawing → Drawing
 nextDrawing left p = record { state = nextState (p .state); wanted = wantedAfter (digitAt left p) (p .wanted) }
 
@@ -76,8 +76,8 @@ isCount n = leb 1 n && leb n 4095
 unfoldable pub load : ℕ → ℕ → List ℕ
 load seed n = cond (isCount n) (digitsFrom n (firstDrawing seed)) []
 
--- "For any n outside, the load is empty, whatever the output. Otherwise an output shorter than n gives 10 and stays as it was." ([10]): an empty load goes into
--- every output.
+-- "For any n outside, the load is empty, whatever the output. Otherwise an output shorter than n gives 10 and stays as it was." ([10]): an empty load goes
+-- into every output.
 unfoldable pub generate : ℕ → ℕ → List ℕ → Outcome Written
 generate seed n out = intoOut Digits Refused (load seed n) out
 

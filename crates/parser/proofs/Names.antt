@@ -7,9 +7,9 @@ use mathlib.Core.Option.{Option, none, some}
 use native.Mathlib.Omega.{arith}
 use native.Mathlib.Numerals.{add-one}
 use lib.ListN.{length, getD, drop, drop-of-length-le}
-use lib.Seq.{drop-cons}
 use lib.Dec.{eqb}
 use borrow.Author.Tests.{eq-eqb, ne-eqb, eqb-true, eqb-false, not-true, not-false}
+use Rattle.table.proofs.Lists.{from-place}
 use Rattle.grammar.specs.Tokens.{Token, name, Sign, is-caret, is-opening, is-backslash, is-closing, is-stop, is-bang, is-ampersand, is-bar, is-arrow}
 use Rattle.grammar.specs.Reader.{up, lookup, binder, operandBy, operand}
 use Rattle.grammar.specs.Words.{token}
@@ -67,7 +67,7 @@ searched-none ns from x = let e : from + 0 ≡ from = omega arith in rw e
 
 lookup-cons : (ns : List ℕ) (x i : ℕ) → i < length ns → lookup (drop i ns) x ≡ cond (eqb x (getD ns i 0)) (some 0) (up (lookup (drop (i + 1) ns) x))
 unfolding lookup
-lookup-cons ns x i h = ap (λ (l : List ℕ). lookup l x) (drop-cons ns i 0 h) ∙ ap (λ (n : ℕ). cond (eqb x (getD ns i 0)) (some 0) (up (lookup (drop n ns) x))) (sym (add-one i))
+lookup-cons ns x i h = ap (λ (l : List ℕ). lookup l x) (from-place ns i 0 h)
 
 pub searched-more : (ns : List ℕ) (from x i : ℕ) → Searched ns from x i → from + i < length ns → (x ≡ getD ns (from + i) 0 → ⊥) → Searched ns from x (i + 1)
 unfolding upBy

@@ -1,4 +1,5 @@
 -- The laws of tables; other crates cite them.
+pub mod Lists
 pub mod Words
 pub mod Trees
 pub mod Making

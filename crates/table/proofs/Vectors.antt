@@ -1,12 +1,12 @@
--- Worked examples: the numbers of refusals and answers, which no theorem pins; bytes into out; nodes found, made in order or without a place; nodes that are equal. Assumes
--- nothing.
+-- Worked examples: the numbers of refusals and answers, which no theorem pins; bytes into out; nodes found, made in order or without a place; nodes that
+-- are equal. Assumes nothing.
 use Prim.Native.Nat.{ℕ}
 use mathlib.Core.Path.{_≡_, refl}
 use mathlib.Core.Bool.{true, false}
-use mathlib.Core.List.{List, [], _∷_, map}
+use mathlib.Core.List.{[], _∷_, map}
 use lib.ListN.{replicate}
-use Rattle.calculus.specs.Tree.{Tree, leaf, stem, fork}
-use Rattle.table.specs.Nodes.{Table, Placed, got, full, broken, hasWords, find, isNone, sound, newNode, orNew, make, andThen, lay}
+use Rattle.calculus.specs.Tree.{leaf, stem, fork}
+use Rattle.table.specs.Nodes.{got, full, broken, hasWords, find, isNone, sound, newNode, orNew, make, andThen, lay}
 use Rattle.table.specs.Outcome.{wholeOut, intoOut}
 use Rattle.table.specs.Refusal.{number, refusedNumbers, madeNumbers, givenNumbers, clears}
 use Rattle.table.specs.Same.{sameNumbers}

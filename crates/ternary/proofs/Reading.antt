@@ -5,9 +5,7 @@ use mathlib.Core.Bool.{Bool, true, false, cond}
 use mathlib.Core.List.{List, [], _∷_}
 use mathlib.Core.Option.{Option, none, some}
 use native.Mathlib.Omega.{arith}
-use native.Mathlib.Numerals.{add-one}
 use lib.ListN.{length, take, drop, getD, length-drop, take-append-drop}
-use lib.Seq.{drop-cons}
 use lib.Dec.{leb}
 use borrow.Author.Tests.{leb-true, le-leb}
 use Rattle.calculus.specs.Tree.{Tree, size}
@@ -19,6 +17,7 @@ use Rattle.table.specs.declared.Refusal.the-variants.{Nodes}
 use Rattle.table.specs.declared.Made.{Made}
 use Rattle.table.specs.declared.Made.the-variants.{Node, Refused}
 use Rattle.table.specs.Claims.{Kept, Extends, Has, Room}
+use Rattle.table.proofs.Lists.{from-place}
 use Rattle.table.proofs.Words.{zero-one}
 use Rattle.table.proofs.Trees.{kept-refl, kept-tree}
 use Rattle.table.proofs.Making.{lay-full, lay-fills, lay-room}
@@ -199,7 +198,7 @@ digit-node {t} {z} s l p {ns} e h =
     go : (y : Table) → Sound y → Extends y z → {ts : List Tree} → drop p l ≡ texts ts → {ms : List ℕ} → layDigits t (drop p l) ≡ awaits y ms → HaveTrees y ms ts → DigitNode t z l p
     go y f k e q no-nodes = absurd (omega (arith, ap length e, length-drop p l))
     go y f k e q (one-more {n = n} {x = x} {ns = ms} {xs = xs} g r) =
-        let c : drop p l ≡ getD l p 0 ∷ drop (p + 1) l = drop-cons l p 0 h ∙ ap (λ (i : ℕ). getD l p 0 ∷ drop i l) (sym (add-one p)) in
+        let c = from-place l p 0 h in
         let a = rw c at q in
         let b = before-digit (getD l p 0) (layDigits t (drop (p + 1) l)) a in
         record {

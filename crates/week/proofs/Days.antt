@@ -8,6 +8,7 @@ use native.Mathlib.Omega.{arith}
 use lib.Dec.{leb, ltb, eqb}
 use lib.ListN.{length, getD, replicate, List·getD-eq-default}
 use borrow.Author.Tests.{ltb-true, leb-true, leb-false, eqb-true, lt-ltb, le-leb, eq-eqb}
+use Rattle.table.proofs.Lists.{at-place}
 use Rattle.table.proofs.Words.{and-left, and-right}
 use Rattle.week.specs.declared.Window.{Window}
 use Rattle.week.specs.Weeks.{isWindow, isUnused, allUnused, isDayFrom, isDay, allDays, isWeek}
@@ -139,13 +140,8 @@ week-exactly week = (there, back)
     back k = rw (eq-eqb _ _ (k .seven)) (are-days week (k .each-day))
 
 -- day d of a week, d below seven
-day-in : (week : List (List Window)) (d : ℕ) → d < length week → List·Memᴰ (getD week d []) week
-day-in [] d h = absurd (omega arith)
-day-in (ws ∷ days) zero h = List·Memᴰ·head refl
-day-in (ws ∷ days) (suc d) h = List·Memᴰ·tail (day-in days d (omega arith))
-
 pub day-of : {week : List (List Window)} → IsWeek week → (d : ℕ) → d < 7 → IsDay (getD week d [])
-day-of {week} k d h = k .each-day (getD week d []) (day-in week d (rw (k .seven) h))
+day-of {week} k d h = k .each-day (getD week d []) (at-place week d [] (rw (k .seven) h))
 
 -- a window stands on one of the seven days, and begins in it
 pub below-seven : {week : List (List Window)} {d : ℕ} {w : Window} → IsWeek week → WindowOf week d w → d < 7

@@ -1,5 +1,4 @@
 -- The theorems of a week of windows, and worked examples. Assumes nothing.
-pub mod Lists
 pub mod Days
 pub mod Checks
 pub mod Held

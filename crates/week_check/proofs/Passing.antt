@@ -10,7 +10,7 @@ use borrow.Author.Tests.{leb-true, lt-leb, le-leb, eq-eqb}
 use Rattle.table.proofs.Words.{told-apart}
 use Rattle.week.specs.declared.Window.{Window}
 use Rattle.week.specs.Weeks.{isWindow, isUnused, allUnused, isDayFrom, isDay, allDays, isWeek, passes}
-use Rattle.week.proofs.Lists.{from-place}
+use Rattle.table.proofs.Lists.{from-place}
 use Rattle.week.proofs.Days.{window-is, unused-zeros}
 use Rattle.week_check.specs.Code.{fits}
 

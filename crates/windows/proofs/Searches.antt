@@ -9,7 +9,7 @@ use lib.ListN.{length, getD, drop, drop-of-length-le}
 use borrow.Author.Tests.{le-leb, lt-leb, lt-ltb, le-ltb, eq-eqb, ne-eqb}
 use Rattle.week.specs.declared.Window.{Window}
 use Rattle.week.specs.Weeks.{holds, packetAt}
-use Rattle.week.proofs.Lists.{from-place}
+use Rattle.table.proofs.Lists.{from-place}
 use Rattle.windows.specs.Code.{firstFrom}
 
 module _ (minute : ℕ) (day : List Window) (i : ℕ) (z : Window) (h : i < length day) where

@@ -18,7 +18,7 @@ use Rattle.table.proofs.Words.{zero-one}
 use Rattle.week.specs.declared.Window.{Window}
 use Rattle.week.specs.Weeks.{passes, checked, packetAt, windowAt, nextWindow}
 use Rattle.week.specs.Claims.{ValidInput}
-use Rattle.week.proofs.Lists.{any-default}
+use Rattle.table.proofs.Lists.{any-default}
 use Rattle.week.proofs.Checks.{valid}
 use Rattle.windows.specs.Code.{firstFrom}
 use Rattle.windows.proofs.Ahead.{NoneWithin, none-next, found, reaches}

@@ -1,7 +1,7 @@
 -- Laws of places in a list. Assumes nothing.
 use Prim.Native.Nat.{ℕ, zero, suc, _+_, _<_}
 use mathlib.Core.Path.{_≡_, refl, sym, ap, _∙_}
-use mathlib.Core.List.{List, [], _∷_}
+use mathlib.Core.List.{List, [], _∷_, List·Memᴰ, List·Memᴰ·head, List·Memᴰ·tail}
 use native.Mathlib.Omega.{arith}
 use native.Mathlib.Numerals.{add-one}
 use lib.ListN.{length, getD, drop}
@@ -17,3 +17,9 @@ module _ {A : Type 0} where
   any-default [] i x y h = absurd (omega arith)
   any-default (a ∷ l) zero x y h = refl
   any-default (a ∷ l) (suc i) x y h = any-default l i x y (omega arith)
+
+  -- what is read within a list's length is a member of it
+  pub at-place : (l : List A) (i : ℕ) (z : A) → i < length l → List·Memᴰ (getD l i z) l
+  at-place [] i z h = absurd (omega arith)
+  at-place (a ∷ l) zero z h = List·Memᴰ·head refl
+  at-place (a ∷ l) (suc i) z h = List·Memᴰ·tail (at-place l i z (omega arith))
