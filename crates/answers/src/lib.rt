@@ -7,7 +7,6 @@ ghost use Rattle.ternary.specs.Write as writing;
 ghost use Rattle.labelled.specs.Unlabel as unlabelling;
 ghost use Rattle.running.specs.Run as running;
 ghost use Rattle.grammar.specs.Outcome as grammar;
-ghost use Rattle.loads.specs.Loads as loads;
 ghost use Rattle.answers.specs.Listed.{listed};
 use grammar::Encoded;
 use labelled::Unlabelled;
@@ -77,16 +76,6 @@ pub fn encoded(answer: Encoded) -> [usize; 2]
     match answer {
         Encoded::Bytes(n) => [0, n],
         Encoded::Refused(refusal) => [refusals::number(refusal), 0],
-    }
-}
-
-// The numbers of the answer of `generate`.
-pub fn generated(answer: Written) -> [usize; 2]
-    ensures { λ r. ⌜ r ≡ loads.generatedNumbers answer ⌝ }
-{
-    match answer {
-        Written::Digits(digits) => [0, digits],
-        Written::Refused(refusal) => [refusals::number(refusal), 0],
     }
 }
 

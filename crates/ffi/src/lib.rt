@@ -1,7 +1,7 @@
 // The operations for C and Rust, each under a plain name and on plain numbers and slices; include/lazvorn.h declares them. A slice is two C
 // arguments, a pointer and a length. An answer is an array that the caller lends: five numbers, refusal, node, used, steps and digits; of Apply and Run
-// these and the uses of leaf, stem, drop, spread and triage; or what the operation says. The crates `answers`, `counted`, `stops` and
-// `refusals` make its numbers. The definitions are in specs/.
+// these and the uses of leaf, stem, drop, spread and triage; or what the operation says. The crates `answers`, `counted`, `stops`,
+// `generator` and `refusals` make its numbers. The definitions are in specs/.
 ghost use mathlib.Core.Path.{_≡_};
 ghost use mathlib.Core.List.{[]};
 ghost use Rattle.table.specs.Refusal.{madeNumbers, givenNumbers};
@@ -176,7 +176,7 @@ pub extern "C" fn lazvorn_generate(
         ≡ answered loads.generatedNumbers (loads.generate seed digits (now (out .entry))) ⌝ }
 {
     let written = generator::generate(seed, digits, out);
-    *answer = answers::generated(written);
+    *answer = generator::numbers(written);
 }
 
 // Gives the nodes of rule and label out of the labelled tree of a node; the table is only read. The answer is six numbers: refusal, the rule's node,

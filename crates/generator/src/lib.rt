@@ -1,5 +1,5 @@
-// Loads in code: what is drawn from a seed, the digit that is taken for it, and the load written to out. The definitions and their theorems are in the
-// crate `loads`. Assumes nothing.
+// Loads in code: what is drawn from a seed, the digit that is taken for it, the load written to out, and the numbers of the answer. The definitions and
+// their theorems are in the crate `loads`. Assumes nothing.
 ghost use mathlib.Core.Path.{_≡_};
 ghost use mathlib.Core.Bool.{true};
 ghost use mathlib.Core.List.{[], _++_};
@@ -7,7 +7,7 @@ ghost use mathlib.Core.Option.{some};
 ghost use Prim.Native.Nat.{_+_, _≤_, _<_};
 ghost use lib.ListN.{length, drop};
 ghost use Rattle.table.specs.Outcome.{wholeOut};
-ghost use Rattle.loads.specs.Loads.{nextState, canEnd, allowed, pick, digitsFrom, firstDrawing, generate};
+ghost use Rattle.loads.specs.Loads.{nextState, canEnd, allowed, pick, digitsFrom, firstDrawing, generate, generatedNumbers};
 use table::Refusal;
 use ternary::Written;
 
@@ -66,4 +66,14 @@ pub fn generate(seed: u32, n: usize, out: &mut [u8]) -> Written
     }
     write_load(seed as usize, n, out);
     Written::Digits(n)
+}
+
+// The numbers of the answer: the refusal or 0, and how many digits were written.
+pub fn numbers(answer: Written) -> [usize; 2]
+    ensures { λ r. ⌜ r ≡ generatedNumbers answer ⌝ }
+{
+    match answer {
+        Written::Digits(digits) => [0, digits],
+        Written::Refused(refusal) => [refusals::number(refusal), 0],
+    }
 }

@@ -8,8 +8,8 @@ use Rattle.ffi.proofs.lazvorn_generate.Tie as tie
 generate-requires : tie.Need-generate-requires
 generate-requires c κs = search needs
 
-generated-requires : tie.Need-generated-requires
-generated-requires c κs = search needs
+numbers-requires : tie.Need-numbers-requires
+numbers-requires c κs = search needs
 
 same-length : tie.Need-same-length
 same-length c = search needs
@@ -17,8 +17,8 @@ same-length c = search needs
 returns : tie.Need-returns
 returns c =
     let call = c .before .before .before in
-    is-answered generatedNumbers (c .generated .ensures) (call .generate .ensures)
+    is-answered generatedNumbers (c .numbers .ensures) (call .generate .ensures)
 
 pub lazvorn-generate-spec : {M : Type 1} → statement M
 lazvorn-generate-spec =
-    tie.close (tie.spec generate-requires generated-requires same-length returns)
+    tie.close (tie.spec generate-requires numbers-requires same-length returns)

@@ -1,8 +1,8 @@
--- `answers::generated` meets its contract: each case of the answer. Assumes nothing.
+-- `generator::numbers` meets its contract: each case of the answer. Assumes nothing.
 use Rattle.loads.specs.Loads.{generatedNumbers}
 use borrow.Author.Needs.{needs}
-use Rattle.answers.proofs.generated.Statement.{statement}
-use Rattle.answers.proofs.generated.Tie as tie
+use Rattle.generator.proofs.numbers.Statement.{statement}
+use Rattle.generator.proofs.numbers.Tie as tie
 
 enum-known-answer : tie.Need-enum-known-answer
 enum-known-answer c = search needs
@@ -21,6 +21,6 @@ returns-2 : tie.Need-returns-2
 unfolding generatedNumbers
 returns-2 c = rw (c .before .before .answer2 .given .1, c .number .ensures)
 
-pub generated-spec : {M : Type 1} → statement M
-generated-spec =
+pub numbers-spec : {M : Type 1} → statement M
+numbers-spec =
     tie.close (tie.spec enum-known-answer enum-known-answer-2 number-requires returns returns-2)
