@@ -18,6 +18,7 @@ ghost use Rattle.running.specs.Run as running;
 ghost use Rattle.stopping.specs.Stopped as stopping;
 ghost use Rattle.grammar.specs.Outcome as grammar;
 ghost use Rattle.loads.specs.Loads as loads;
+ghost use Rattle.short_codes.specs.ShortCodes as coding;
 ghost use Rattle.week.specs.Weeks.{windowAt, nextWindow};
 ghost use Rattle.week.specs.Lent.{lent};
 ghost use Rattle.ffi.specs.Boundary.{numbered, counted};
@@ -227,4 +228,22 @@ pub extern "C" fn lazvorn_next_window(
 {
     let minutes = week_numbers::next_window(week, day, minute);
     *answer = refusals::given(minutes);
+}
+
+// Gives the code of a node's tree; the table is only read. The answer is three numbers: refusal, 1 if the tree has a code, and the code.
+#[no_mangle]
+pub extern "C" fn lazvorn_code(table: &[u32], used: usize, node: usize, answer: &mut [usize; 3])
+    ensures { λ _. ⌜ now (answer .exit) ≡ givenNumbers (coding.code (now (table .entry)) used node) ⌝ }
+{
+    let code = node_code::code(table, used, node);
+    *answer = refusals::given(code);
+}
+
+// Writes the text of a code to out. The answer is three numbers: refusal, 1 if there is such a code, and the digits written.
+#[no_mangle]
+pub extern "C" fn lazvorn_code_text(code: usize, out: &mut [u8], answer: &mut [usize; 3])
+    ensures { λ _. ⌜ wholeOut (now (answer .exit)) [] [] (now (out .exit)) ≡ answered givenNumbers (coding.codeText code (now (out .entry))) ⌝ }
+{
+    let digits = code_text::code_text(code, out);
+    *answer = refusals::given(digits);
 }

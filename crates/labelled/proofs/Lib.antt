@@ -3,7 +3,6 @@ pub mod Labelled
 pub mod Labels
 pub mod Lacks
 pub mod Vectors
-pub mod Branches
 pub mod Forms
 pub mod Unlabels
 pub mod After

@@ -3,4 +3,3 @@ pub mod Label
 pub mod Claims
 pub mod Unlabel
 pub mod UnlabelClaims
-pub mod Branches

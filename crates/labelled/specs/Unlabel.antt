@@ -1,11 +1,12 @@
 -- Which trees are of the labelled form, and the nodes of rule and label out of such a tree (document 02, [1] and [4]). Assumes nothing: these are
 -- definitions.
-use Prim.Native.Nat.{ℕ, _-_}
+use Prim.Native.Nat.{ℕ}
 use mathlib.Core.Bool.{Bool, true, false, cond, _&&_}
 use mathlib.Core.List.{List, [], _∷_}
 use lib.Dec.{ltb}
 use Rattle.calculus.specs.Tree.{Tree, leaf, stem, fork}
-use Rattle.table.specs.Nodes.{first, second, treeAt}
+use Rattle.table.specs.Nodes.{treeAt}
+use Rattle.table.specs.Branches.{left, right}
 use Rattle.table.specs.Outcome.{atEntry, unless}
 use Rattle.table.specs.Refusal.{number}
 use Rattle.table.specs.declared.Refusal.the-variants.{Node, Label}
@@ -55,13 +56,6 @@ unfoldable pub isLabelled : Tree → Bool
 isLabelled leaf = false
 isLabelled (stem p) = false
 isLabelled (fork p q) = isLabelBranch p && isRuleBranch q
-
--- the node of a node's first branch, and of its second
-abbrev pub left : List ℕ → ℕ → ℕ
-left w v = first w v - 1
-
-abbrev pub right : List ℕ → ℕ → ℕ
-right w v = second w v - 1
 
 -- the node of t under Δ(Kt) at node v, and that of f under Δ(Δf)(KK)
 abbrev pub labelUnder : List ℕ → ℕ → ℕ

@@ -9,11 +9,12 @@ use native.Mathlib.Omega.{arith}
 use lib.ListN.{length, replicate, length-append, length-replicate}
 use lib.Dec.{eqb}
 use borrow.Author.Tests.{leb-true, eqb-true, le-leb, eq-eqb}
+use Rattle.table.specs.Ascending.{NumbersAscend}
 use Rattle.table.proofs.Words.{zero-one}
 use Rattle.ternary.specs.Wanted.{wantedAfter, wantedFrom, wanted}
 use Rattle.ternary.proofs.Wanted.{none-wanted, leaves-wanted, wanted-append, wanted-whole, digits-within}
 use Rattle.loads.specs.Loads.{canEnd, threeDigits, allowed, pick}
-use Rattle.loads.specs.Claims.{Allowed, DigitsAscend, AllowedAre}
+use Rattle.loads.specs.Claims.{Allowed, AllowedAre}
 use Rattle.loads.proofs.Lists.{some-member, pick-member, those-hold, hold-those, those-ascend, three-ascend}
 
 -- stems leave the number of trees wanted
@@ -49,7 +50,7 @@ pub can-end-exactly : (left : ℕ) (o : Option ℕ) → (canEnd left o ≡ true)
 can-end-exactly left o = (used-up left o, ends left o)
 
 -- the three digits ascend
-digits-ascend : DigitsAscend 0 threeDigits
+digits-ascend : NumbersAscend 0 threeDigits
 unfolding threeDigits
 digits-ascend = three-ascend threeDigits refl (omega arith) (omega arith)
 

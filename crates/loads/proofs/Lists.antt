@@ -1,17 +1,17 @@
 -- Laws of lists of digits: members, those for which a test holds, lists that ascend. Assumes nothing.
 use Prim.Native.Nat.{ℕ, _+_, _%_, _≤_, _<_}
-use mathlib.Core.Path.{_≡_, refl, sym, ap, _∙_}
+use mathlib.Core.Path.{_≡_, refl, ap, _∙_}
 use mathlib.Core.Bool.{Bool, true, false, cond}
 use mathlib.Core.List.{List, [], _∷_, List·Memᴰ, List·Memᴰ·head, List·Memᴰ·tail, List·Memᴰ·not-nil, List·Memᴰ·cases-cons}
 use mathlib.Core.Logic.{_⊎_, inl, inr}
 use native.Mathlib.Omega.{arith}
 use native.Mathlib.Nat.{mod-lt}
 use lib.ListN.{length, getD}
+use Rattle.table.specs.Ascending.{NumbersAscend}
+use Rattle.table.specs.Ascending.NumbersAscend.{no-more, one-more}
 use Rattle.table.proofs.Lists.{at-place}
 use Rattle.table.proofs.Words.{told-apart}
 use Rattle.loads.specs.Loads.{those, pick}
-use Rattle.loads.specs.Claims.{DigitsAscend}
-use Rattle.loads.specs.Claims.DigitsAscend.{no-more, one-more}
 
 -- a list that has a member is not empty
 pub some-member : (c : ℕ) (cs : List ℕ) → List·Memᴰ c cs → 0 < length cs
@@ -51,21 +51,21 @@ module _ (test : ℕ → Bool) where
       go false q (inr j) f = f j
 
   -- of a list that ascends they ascend
-  pub those-ascend : {m : ℕ} {cs : List ℕ} → DigitsAscend m cs → DigitsAscend m (those test cs)
+  pub those-ascend : {m : ℕ} {cs : List ℕ} → NumbersAscend m cs → NumbersAscend m (those test cs)
   unfolding those
   those-ascend no-more = no-more
   those-ascend {m} (one-more {c = c} {cs = cs} h a) = go (test c) (those-ascend a)
     where
-      below : {ds : List ℕ} → DigitsAscend (c + 1) ds → DigitsAscend m ds
+      below : {ds : List ℕ} → NumbersAscend (c + 1) ds → NumbersAscend m ds
       below no-more = no-more
       below (one-more {c = d} k b) = one-more (let e : m ≤ d = omega arith in e) b
 
-      go : (z : Bool) → DigitsAscend (c + 1) (those test cs) → DigitsAscend m (cond z (c ∷ those test cs) (those test cs))
+      go : (z : Bool) → NumbersAscend (c + 1) (those test cs) → NumbersAscend m (cond z (c ∷ those test cs) (those test cs))
       go true b = one-more h b
       go false b = below b
 
 -- three numbers of which each is below the next ascend
-pub three-ascend : (l : List ℕ) → length l ≡ 3 → getD l 0 0 < getD l 1 0 → getD l 1 0 < getD l 2 0 → DigitsAscend 0 l
+pub three-ascend : (l : List ℕ) → length l ≡ 3 → getD l 0 0 < getD l 1 0 → getD l 1 0 < getD l 2 0 → NumbersAscend 0 l
 three-ascend [] k p q = absurd (omega arith)
 three-ascend (a ∷ []) k p q = absurd (omega arith)
 three-ascend (a ∷ (b ∷ [])) k p q = absurd (omega arith)
@@ -75,32 +75,3 @@ three-ascend (a ∷ (b ∷ (c ∷ []))) k p q =
     let z : 0 ≤ a = omega arith in
     one-more z (one-more x (one-more y no-more))
 three-ascend (a ∷ (b ∷ (c ∷ (d ∷ l)))) k p q = absurd (omega arith)
-
--- a member of a list that ascends from m on is at least m
-later : {m : ℕ} {cs : List ℕ} → DigitsAscend m cs → (c : ℕ) → List·Memᴰ c cs → m ≤ c
-later no-more c i = absurd (List·Memᴰ·not-nil i)
-later {m} (one-more {c = d} {cs = ds} h a) c i = go (later a c) (List·Memᴰ·cases-cons i)
-  where
-    go : (List·Memᴰ c ds → d + 1 ≤ c) → (c ≡ d) ⊎ List·Memᴰ c ds → m ≤ c
-    go f (inl e) = omega arith
-    go f (inr j) = omega (arith, f j)
-
--- lists that ascend and have the same members are one
-pub one-list : {m k : ℕ} {cs ds : List ℕ} → DigitsAscend m cs → DigitsAscend k ds → ((x : ℕ) → List·Memᴰ x cs → List·Memᴰ x ds) → ((x : ℕ) → List·Memᴰ x ds → List·Memᴰ x cs) → cs ≡ ds
-one-list no-more no-more f g = refl
-one-list no-more (one-more {c = d} h b) f g = absurd (List·Memᴰ·not-nil (g d (List·Memᴰ·head refl)))
-one-list (one-more {c = c} h a) no-more f g = absurd (List·Memᴰ·not-nil (f c (List·Memᴰ·head refl)))
-one-list (one-more {c = c} {cs = cs} h a) (one-more {c = d} {cs = ds} k b) f g =
-    let e : c ≡ d = first (List·Memᴰ·cases-cons (f c (List·Memᴰ·head refl))) (List·Memᴰ·cases-cons (g d (List·Memᴰ·head refl))) in
-    let t : cs ≡ ds = one-list a b (λ x i. rest d a (omega arith) x i (List·Memᴰ·cases-cons (f x (List·Memᴰ·tail i)))) (λ x i. rest c b (omega arith) x i (List·Memᴰ·cases-cons (g x (List·Memᴰ·tail i)))) in
-    cc
-  where
-    first : (c ≡ d) ⊎ List·Memᴰ c ds → (d ≡ c) ⊎ List·Memᴰ d cs → c ≡ d
-    first (inl e) y = e
-    first (inr i) (inl e) = sym e
-    first (inr i) (inr j) = absurd (omega (arith, later b c i, later a d j))
-
-    -- a later member is not the first of the other list
-    rest : (y : ℕ) {q : ℕ} {xs ys : List ℕ} → DigitsAscend q xs → y < q → (x : ℕ) → List·Memᴰ x xs → (x ≡ y) ⊎ List·Memᴰ x ys → List·Memᴰ x ys
-    rest y a h x i (inl e) = absurd (omega (arith, later a x i))
-    rest y a h x i (inr j) = j

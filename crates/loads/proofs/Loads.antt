@@ -11,6 +11,7 @@ use lib.Seq.{take-suc, take-length}
 use lib.Dec.{leb}
 use borrow.Author.Tests.{leb-true, le-leb}
 use Rattle.calculus.specs.Tree.{Tree}
+use Rattle.table.proofs.Ascending.{one-list}
 use Rattle.table.proofs.Words.{and-left, and-right, told-apart}
 use Rattle.ternary.specs.Text.{treeOf}
 use Rattle.ternary.specs.Wanted.{wantedAfter, wantedFrom, wanted}
@@ -18,7 +19,6 @@ use Rattle.ternary.proofs.Wanted.{wanted-append, wanted-whole}
 use Rattle.loads.specs.Loads.{nextState, drawn, canEnd, allowed, pick, Drawing, digitAt, nextDrawing, digitsFrom, firstDrawing, isCount, load}
 use Rattle.loads.specs.Claims.{AllowedAre, TakenFor, stateAfter, Draws, IsCount, IsLoad}
 use Rattle.loads.specs.Claims.IsLoad.{outside, inside}
-use Rattle.loads.proofs.Lists.{one-list}
 use Rattle.loads.proofs.Allowed.{UsedUp, can-end-exactly, some-allowed, pick-ends, allowed-are}
 
 -- "draws once a digit" ([10]): the state is advanced once for every digit

@@ -10,6 +10,7 @@ use Rattle.calculus.specs.Tree.{Tree}
 use Rattle.table.specs.Nodes.{Table}
 use Rattle.table.specs.Outcome.{Outcome, wholeOut, frames, atEntry}
 use Rattle.table.specs.Claims.{Lacking, EntryLacks}
+use Rattle.table.specs.Ascending.{NumbersAscend}
 use Rattle.table.specs.declared.Refusal.{Refusal}
 use Rattle.table.specs.declared.Refusal.the-variants.{Nodes, Frames, Out}
 use Rattle.ternary.specs.Text.{treeOf, mostPending}
@@ -22,15 +23,10 @@ use Rattle.loads.specs.Loads.{nextState, drawn}
 abbrev pub Allowed : ℕ → List ℕ → ℕ → Type 0
 Allowed n l c = (r : List ℕ) × Completes l (c ∷ r) × (length (l ++ (c ∷ r)) ≡ n)
 
--- numbers "in ascending order" ([10]), the first at least m
-pub data DigitsAscend : ℕ → List ℕ → Type 0 where
-  no-more : {m : ℕ} → DigitsAscend m []
-  one-more : {m c : ℕ} {cs : List ℕ} → m ≤ c → DigitsAscend (c + 1) cs → DigitsAscend m (c ∷ cs)
-
 -- "digits allowed there, in ascending order" ([10]): cs are all that are allowed after the digits l, and no others
 pub record AllowedAre (n : ℕ) (l cs : List ℕ) : Type 0 where
   pub exactly : (c : ℕ) → List·Memᴰ c cs ↔ Allowed n l c
-  pub ascending : DigitsAscend 0 cs
+  pub ascending : NumbersAscend 0 cs
 
 -- "takes the remainder by the number of digits allowed there" ([10]): the digit c after the digits l, for what is drawn
 pub record TakenFor (n : ℕ) (l : List ℕ) (draw c : ℕ) : Type 0 where

@@ -1,7 +1,9 @@
 -- The laws of tables; other crates cite them.
 pub mod Lists
+pub mod Ascending
 pub mod Words
 pub mod Trees
+pub mod Branches
 pub mod Making
 pub mod Once
 pub mod Subtrees

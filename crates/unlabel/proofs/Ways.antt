@@ -11,11 +11,11 @@ use denote.Enum.Declared
 use borrow.Author.Tests.{lt-ltb, le-ltb}
 use Rattle.calculus.specs.Tree.{Tree, leaf}
 use Rattle.table.specs.Nodes.{treeAt}
+use Rattle.table.specs.Branches.{IsStem, IsFork}
 use Rattle.table.specs.Outcome.{atEntry}
 use Rattle.table.specs.declared.Refusal.the-variants.{Node, Label}
 use Rattle.table.proofs.Words.{zero-one}
 use Rattle.labelled.specs.Unlabel.{isLeaf, isStem, isK, isKK, isKOf, isLabelBranch, isRuleBranch, isLabelled, labelUnder, ruleUnder, labelNode, ruleNode, unlabelNode, unlabel}
-use Rattle.labelled.specs.Branches.{IsStem, IsFork}
 use Rattle.labelled.specs.declared.Unlabelled.the-variants.{Parts, Refused}
 use Rattle.unlabel.specs.Code.{Shaped, a-leaf, a-stem, a-fork, Holds, of-form, not-of-form}
 use Rattle.unlabel.specs.declared.Shape.{Shape}

@@ -5,7 +5,7 @@ use mathlib.Core.Bool.{Bool, true, false}
 use mathlib.Core.List.{List}
 use Rattle.calculus.specs.Tree.{leaf}
 use Rattle.table.specs.Nodes.{treeAt}
-use Rattle.labelled.specs.Branches.{IsStem, IsFork}
+use Rattle.table.specs.Branches.{IsStem, IsFork}
 use Rattle.unlabel.specs.declared.Shape.{Shape}
 use Rattle.unlabel.specs.declared.Shape.the-variants.{Leaf, Stem, Fork}
 use Rattle.unlabel.specs.declared.Under.{Under}

@@ -2,7 +2,7 @@
 // mean in its terms.
 ghost use mathlib.Core.Path.{_≡_};
 ghost use Rattle.table.specs.Nodes.{treeAt};
-ghost use Rattle.labelled.specs.Branches.{InUse};
+ghost use Rattle.table.specs.Branches.{InUse};
 ghost use Rattle.labelled.specs.Unlabel.{isKK, isLabelBranch, isRuleBranch, labelUnder, ruleUnder, unlabelNode, unlabel};
 ghost use Rattle.unlabel.specs.Code.{Shaped, Holds};
 use checks::Checked;

@@ -2,8 +2,7 @@
 use Prim.Native.Nat.{ℕ}
 use mathlib.Core.Path.{ap, _∙_}
 use mathlib.Core.List.{List}
-use Rattle.labelled.specs.Unlabel.{right}
-use Rattle.labelled.specs.Branches.{IsStem, IsFork}
+use Rattle.table.specs.Branches.{right, IsStem, IsFork}
 use Rattle.unlabel.specs.Code.{not-of-form}
 use Rattle.unlabel.proofs.Ways.{told-leaf, told-stem, told-fork, no-leaf, no-stem, no-fork, label-branch, k-of, leaf-passes, of-form-at}
 use borrow.Author.Needs.{needs}

@@ -3,8 +3,7 @@ use Prim.Native.Nat.{ℕ}
 use mathlib.Core.Path.{sym, ap, _∙_}
 use mathlib.Core.List.{List}
 use borrow.Author.Tests.{not-true, not-false}
-use Rattle.labelled.specs.Unlabel.{left}
-use Rattle.labelled.specs.Branches.{IsStem, IsFork}
+use Rattle.table.specs.Branches.{left, IsStem, IsFork}
 use Rattle.unlabel.specs.Code.{not-of-form}
 use Rattle.unlabel.proofs.Ways.{told-stem, told-fork, no-stem, no-fork, rule-first, rule-second, of-form-at}
 use borrow.Author.Needs.{needs}

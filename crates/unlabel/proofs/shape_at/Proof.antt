@@ -1,5 +1,5 @@
 -- `unlabel::shape_at` meets its contract: a leaf, a stem or a fork by the node's words. Assumes nothing.
-use Rattle.labelled.proofs.Branches.{leaf-by, stem-by, fork-by}
+use Rattle.table.proofs.Branches.{leaf-by, stem-by, fork-by}
 use Rattle.unlabel.specs.Code.{a-leaf, a-stem, a-fork}
 use borrow.Author.Needs.{needs}
 use Rattle.unlabel.proofs.shape_at.Statement.{statement}

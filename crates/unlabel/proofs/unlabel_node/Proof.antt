@@ -1,5 +1,5 @@
 -- `unlabel::unlabel_node` meets its contract: the tests of the labelled form, branch by branch. Assumes nothing.
-use Rattle.labelled.specs.Branches.{IsFork}
+use Rattle.table.specs.Branches.{IsFork}
 use Rattle.unlabel.proofs.Ways.{told-fork, no-fork, told-node, told-other, no-labelled, no-label-branch, no-rule-branch, both-branches}
 use borrow.Author.Needs.{needs}
 use Rattle.unlabel.proofs.unlabel_node.Statement.{statement}

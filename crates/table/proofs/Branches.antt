@@ -4,12 +4,11 @@ use mathlib.Core.Path.{_≡_, refl, sym, _∙_, subst}
 use mathlib.Core.List.{List}
 use native.Mathlib.Omega.{arith}
 use Rattle.calculus.specs.Tree.{Tree, leaf, stem, fork}
 use Rattle.table.specs.Nodes.{first, second, treeAt}
 use Rattle.table.specs.Claims.{Unbroken}
 use Rattle.table.proofs.Words.{zero-one, sound-node}
 use Rattle.table.proofs.Trees.{tree-leaf, tree-stem, tree-fork}
-use Rattle.labelled.specs.Unlabel.{left, right}
-use Rattle.labelled.specs.Branches.{InUse, IsStem, IsFork}
+use Rattle.table.specs.Branches.{left, right, InUse, IsStem, IsFork}
 
 module _ {w : List ℕ} {v : ℕ} (i : InUse w v) where
   unbroken : Unbroken v (first w v) (second w v)
@@ -47,16 +46,16 @@ module _ {w : List ℕ} {v : ℕ} (i : InUse w v) where
       }
 
   -- the branches of a node by its tree
-  pub stem-of : {x : Tree} → treeAt w v ≡ stem x → IsStem w v (left w v)
-  stem-of {x} e = go (first w v) refl (second w v) refl
+  pub stem-branch : {x : Tree} → treeAt w v ≡ stem x → IsStem w v (left w v)
+  stem-branch {x} e = go (first w v) refl (second w v) refl
     where
       go : (a : ℕ) → a ≡ first w v → (b : ℕ) → b ≡ second w v → IsStem w v (left w v)
       go zero p b q = zero-one (cc (leaf-by p refl))
       go (suc a) p zero q = let h = stem-by p q (λ z. omega arith) refl in subst (IsStem w v) (h .branch-is) h
       go (suc a) p (suc b) q = zero-one (cc (fork-by p q (λ z. omega arith) (λ z. omega arith) .tree))
 
-  pub fork-of : {x y : Tree} → treeAt w v ≡ fork x y → IsFork w v (left w v) (right w v)
-  fork-of {x} {y} e = go (first w v) refl (second w v) refl
+  pub fork-branches : {x y : Tree} → treeAt w v ≡ fork x y → IsFork w v (left w v) (right w v)
+  fork-branches {x} {y} e = go (first w v) refl (second w v) refl
     where
       go : (a : ℕ) → a ≡ first w v → (b : ℕ) → b ≡ second w v → IsFork w v (left w v) (right w v)
       go zero p b q = zero-one (cc (leaf-by p refl))

@@ -1,10 +1,16 @@
--- A node in use, by its branches. Assumes nothing: these are definitions.
-use Prim.Native.Nat.{ℕ, _<_}
+-- A node in use, and its branches. Assumes nothing: these are definitions.
+use Prim.Native.Nat.{ℕ, _-_, _<_}
 use mathlib.Core.Path.{_≡_}
 use mathlib.Core.List.{List}
 use Rattle.calculus.specs.Tree.{stem, fork}
-use Rattle.table.specs.Nodes.{Sound, treeAt}
-use Rattle.labelled.specs.Unlabel.{left, right}
+use Rattle.table.specs.Nodes.{first, second, Sound, treeAt}
+
+-- the node of a node's first branch, and of its second
+abbrev pub left : List ℕ → ℕ → ℕ
+left w v = first w v - 1
+
+abbrev pub right : List ℕ → ℕ → ℕ
+right w v = second w v - 1
 
 -- node v is in use in a sound table that has these words
 pub record InUse (w : List ℕ) (v : ℕ) : Type 0 where

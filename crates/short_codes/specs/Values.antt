@@ -1,0 +1,43 @@
+-- Values ([12]): of a text, and of all trees of at most ten nodes; and the digits of a value. Assumes nothing: these are definitions.
+use Prim.Native.Nat.{ℕ, zero, suc, _+_, _-_, _*_, _/_, _%_}
+use mathlib.Core.Bool.{cond}
+use mathlib.Core.List.{List, [], _∷_, _++_}
+use lib.Dec.{ltb}
+
+-- a base-3 number with one digit more
+unfoldable pub valueAfter : ℕ → ℕ → ℕ
+valueAfter v c = v * 3 + (c - 48)
+
+-- "A text read as a base-3 number is its value" ([12]): read on after a beginning of the value v
+unfoldable pub valueFrom : ℕ → List ℕ → ℕ
+valueFrom v [] = v
+valueFrom v (c ∷ l) = valueFrom (valueAfter v c) l
+
+unfoldable pub value : List ℕ → ℕ
+value l = valueFrom 0 l
+
+-- The values of the texts that have n digits more and use up w trees wanted, after a beginning of the value v: "what a leaf, stem and fork do to the number
+-- of trees still wanted" ([7]), as `wantedAfter` says it. With the digits in this order the values ascend.
+unfoldable pub valuesFrom : ℕ → ℕ → ℕ → List ℕ
+valuesFrom zero zero v = v ∷ []
+valuesFrom zero (suc w) v = []
+valuesFrom (suc n) zero v = []
+valuesFrom (suc n) (suc w) v = valuesFrom n w (valueAfter v 48) ++ (valuesFrom n (suc w) (valueAfter v 49) ++ valuesFrom n (suc (suc w)) (valueAfter v 50))
+
+-- the values of all trees of at most n nodes: a text has a digit for each node
+unfoldable pub valuesTo : ℕ → List ℕ
+valuesTo zero = []
+valuesTo (suc n) = valuesTo n ++ valuesFrom (suc n) 1 0
+
+-- "A table holds the values of all trees of at most ten nodes, ascending, 1,374 of them" ([12]). The theorem `values-hold` says that this is the table, and
+-- `one-table` that no other is.
+unfoldable pub values : List ℕ
+values = valuesTo 10
+
+-- The digits of a number in base 3; 0 has one. The first argument bounds the recursion.
+unfoldable pub numeralTo : ℕ → ℕ → List ℕ
+numeralTo zero v = []
+numeralTo (suc k) v = cond (ltb v 3) ((48 + v) ∷ []) (numeralTo k (v / 3) ++ ((48 + v % 3) ∷ []))
+
+unfoldable pub numeral : ℕ → List ℕ
+numeral v = numeralTo (suc v) v
