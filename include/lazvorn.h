@@ -17,13 +17,14 @@
  * lazvorn_translate, lazvorn_run, lazvorn_stopped and lazvorn_label_packet go into a rule as deep
  * as it nests, and need up to 1 MiB more for the deepest, some 512 bytes for each application
  * within another. lazvorn_rule_text, lazvorn_generate, lazvorn_window and lazvorn_next_window,
- * which have no table, need none of this.
+ * which have no table, need none of this; lazvorn_code_text, which has none either, needs 8 KiB.
  *
  * What a caller owes is what C itself asks: a pointer reaches as many elements as its length says,
- * and what the call writes (the table but for lazvorn_write, lazvorn_unlabel and lazvorn_same, the
- * stack, out, answer) overlaps nothing else that is lent to it. There is no other condition:
- * counts, node numbers and contents that do not fit are refused by number, but for
- * lazvorn_generate's count of digits, for which the load is empty.
+ * and what the call writes (the table but for lazvorn_write, lazvorn_unlabel, lazvorn_same and
+ * lazvorn_code, the stack, out, answer) overlaps nothing else that is lent to it. There is no other
+ * condition: counts, node numbers and contents that do not fit are refused by number, but for
+ * lazvorn_generate's count of digits, for which the load is empty, and lazvorn_code_text's code,
+ * which then has no text.
  *
  * Each call writes its numbers to answer, and the caller lends room for as many:
  *   lazvorn_apply and lazvorn_run write ten: refusal, node, used, steps, digits, and the uses of
@@ -35,6 +36,8 @@
  *   lazvorn_generate writes two: refusal, and digits written;
  *   lazvorn_window and lazvorn_next_window write three: refusal, 1 or 0 whether there is a window,
  *     and the packet number or the minutes, 0 where there is none;
+ *   lazvorn_code and lazvorn_code_text write three: refusal, 1 or 0 whether there is a code or a
+ *     text, and the code or the digits written, 0 where there is none;
  *   every other call writes the first five of the ten.
  * A refusal gives its number, used as at entry (0 for lazvorn_run and lazvorn_label_packet), and 0
  * for the others; lazvorn_stopped alone tells more of a refusal. Refusals 1 to 6 and 11 to 13 leave
@@ -99,11 +102,13 @@ enum {
 /* How many numbers lazvorn_stopped writes. */
 enum { LAZVORN_STOPPED = 4 };
 
-/* In the answers of lazvorn_window and lazvorn_next_window. */
+/* In the answers of lazvorn_window, lazvorn_next_window, lazvorn_code and lazvorn_code_text. */
 enum {
-    LAZVORN_FOUND = 1,         /* 1 if there is a window, else 0 */
+    LAZVORN_FOUND = 1,         /* 1 if there is a window, a code or a text, else 0 */
     LAZVORN_PACKET_NUMBER = 2, /* of lazvorn_window, the window's packet number */
-    LAZVORN_MINUTES = 2        /* of lazvorn_next_window, the minutes until it begins */
+    LAZVORN_MINUTES = 2,       /* of lazvorn_next_window, the minutes until it begins */
+    LAZVORN_CODE = 2,          /* of lazvorn_code, the code */
+    LAZVORN_CODE_WRITTEN = 2   /* of lazvorn_code_text, the digits written to out */
 };
 
 /* How many numbers lazvorn_window and lazvorn_next_window write, and how many a week has. */
@@ -114,6 +119,12 @@ enum { LAZVORN_GENERATED = 1 };
 
 /* The most digits that a load has. */
 enum { LAZVORN_LOAD_DIGITS = 4095 };
+
+/* How many numbers lazvorn_code and lazvorn_code_text write. */
+enum { LAZVORN_CODED = 3 };
+
+/* How many codes there are, and the most digits that the text of one has. */
+enum { LAZVORN_CODES = 1374, LAZVORN_CODE_DIGITS = 10 };
 
 /* The rule that was wanted. */
 enum {
@@ -315,6 +326,30 @@ void lazvorn_generate(
     uint8_t *out,      /* the out bytes; those past the load stay */
     size_t out_len,    /* how many bytes, of which there is no most */
     size_t answer[2]); /* refusal, and digits written */
+
+/*
+ * Gives the code of a node's tree, or none exactly where its text has more than ten digits, however
+ * many these are. A text read as a number in base 3 is its value. The values of all trees of at
+ * most ten nodes, 1,374 of them, ascend from 0, which is the leaf's, to 58,563; a tree's code is
+ * the place of its value among them, from 0. Two trees with one code are equal. Refusals 1, 2, 3.
+ */
+void lazvorn_code(
+    const uint32_t *table, /* the table's words; they are read only */
+    size_t table_len,      /* how many words */
+    size_t used,           /* nodes in use */
+    size_t node,           /* the node whose tree is asked about */
+    size_t answer[3]);     /* refusal, 1 or 0, and the code, at most 1,373 */
+
+/*
+ * Writes the text of the tree that has a code. Gives how many digits were written, from 1 to 10. A
+ * code from 1,374 on has no text: no refusal, and out, whatever it is, stays as found. Else refusal
+ * 10 if out has fewer bytes than the text digits, which leaves out as found.
+ */
+void lazvorn_code_text(
+    size_t code,       /* the code: 0 to 1,373, or there is no text */
+    uint8_t *out,      /* the out bytes; ten are enough for any code; those past the text stay */
+    size_t out_len,    /* how many bytes, of which there is no most */
+    size_t answer[3]); /* refusal, 1 or 0, and digits written */
 
 /*
  * Gives the packet number of the window that holds a minute, or none where no window does. Refusal

@@ -3,10 +3,10 @@
 
 use crate::{difference, hexadecimal, same, unlabel, Counts, Noise};
 use compare::random::Random;
+use compare::tables::{equal_nodes, node, sow, spoil};
 use compare::trees;
 use compare::{answer_of, counted_of, LABEL_NODES};
 use model::Memory;
-use std::collections::HashSet;
 
 /// An operation, with the refusals that it can meet, and the kinds of its calls that are counted.
 #[derive(Clone, Copy)]
@@ -138,35 +138,6 @@ pub fn both<const N: usize>(
     }
 }
 
-/// A number that is far from every bound.
-fn odd_number(random: &mut Random) -> usize {
-    let odd = [
-        65_536,
-        131_072,
-        1 << 31,
-        (1 << 31) - 1,
-        1 << 32,
-        (1 << 32) + 1,
-        1 << 63,
-        usize::MAX / 2,
-        usize::MAX / 3,
-        usize::MAX - 1,
-        usize::MAX,
-    ];
-    *random.pick(&odd)
-}
-
-/// Whether no used node of a table is broken, and two are equal.
-pub fn equal_nodes(table: &[u32], used: usize) -> bool {
-    let nodes = table.chunks_exact(2).take(used).enumerate();
-    let mut broken = nodes.clone().filter(|(i, node)| {
-        let above = node.iter().any(|word| *word as usize > *i);
-        above || (node[0] == 0 && node[1] != 0)
-    });
-    let different: HashSet<&[u32]> = nodes.clone().map(|(_, node)| node).collect();
-    broken.next().is_none() && different.len() < used.min(table.len() / 2)
-}
-
 /// A call of an operation that may make nodes, with its kind.
 fn making<const N: usize>(
     memory: &Memory,
@@ -184,32 +155,6 @@ fn making<const N: usize>(
         _ => None,
     };
     call
-}
-
-/// The first `used` nodes of a table as random nodes that are not broken, no two of them equal.
-pub fn sow(random: &mut Random, table: &mut [u32], used: usize) {
-    let mut sown = HashSet::new();
-    for i in 0..used {
-        let branch = |random: &mut Random| {
-            if i > 6 && random.once_in(2) {
-                random.within(i - 5, i) as u32
-            } else {
-                random.within(1, i.max(1)) as u32
-            }
-        };
-        // Node 0 is the leaf, and there are enough others for every node after it.
-        let node = loop {
-            let node = match random.below(if i == 0 { 1 } else { 5 }) {
-                0 if i == 0 => [0, 0],
-                0 | 1 => [branch(random), 0],
-                _ => [branch(random), branch(random)],
-            };
-            if sown.insert(node) {
-                break node;
-            }
-        };
-        table[2 * i..2 * i + 2].copy_from_slice(&node);
-    }
 }
 
 /// Puts the trees of some rules and texts into a table; how many nodes are in use then.
@@ -269,43 +214,6 @@ pub fn memory(random: &mut Random, noise: &Noise, stack: usize, out: usize) -> (
     (memory, used)
 }
 
-/// Now and then breaks one of the nodes in use, makes two of them equal, once in twenty times or more,
-/// or has too many in use; how many are in use then.
-pub fn spoil(random: &mut Random, table: &mut [u32], used: usize) -> usize {
-    match random.below(60) {
-        0 => return table.len() / 2 + random.within(1, 3),
-        1 => return odd_number(random),
-        2..=6 if used > 0 => {
-            // One broken node: a second branch alone, a branch that is the node itself or comes after
-            // it.
-            let i = if random.once_in(3) {
-                used - 1
-            } else {
-                random.below(used)
-            };
-            let node = &mut table[2 * i..2 * i + 2];
-            match random.below(4) {
-                0 => node.copy_from_slice(&[0, random.within(1, 4) as u32]),
-                1 => node[0] = i as u32 + 1,
-                2 => node.copy_from_slice(&[1, i as u32 + 1]),
-                _ => node[random.below(2)] = random.number() as u32 | 1 << 31,
-            }
-        }
-        7..=12 if used > 1 => {
-            // Two equal nodes: the last and one before it, or any two.
-            let later = if random.once_in(2) {
-                used - 1
-            } else {
-                random.within(1, used - 1)
-            };
-            let earlier = random.below(later);
-            table.copy_within(2 * earlier..2 * earlier + 2, 2 * later);
-        }
-        _ => {}
-    }
-    used
-}
-
 /// A table of so many words: the rest is cut off, or noise is added.
 fn resize(random: &mut Random, noise: &Noise, table: &mut Vec<u32>, words: usize) {
     let words = words.min(131_073);
@@ -357,17 +265,6 @@ fn stack(random: &mut Random) -> usize {
         2..=99 => random.below(12),
         100..=199 => random.below(120),
         _ => random.below(3_000),
-    }
-}
-
-/// A node number that is most often in use.
-pub fn node(random: &mut Random, used: usize) -> usize {
-    match random.below(40) {
-        0 => used,
-        1 => odd_number(random),
-        2..=20 if used > 0 => used - 1 - random.below(used.min(6)),
-        _ if used > 0 => random.below(used),
-        _ => 0,
     }
 }
 

@@ -1,12 +1,15 @@
 //! What the comparison, the program's test and the benchmark share: packets, rules, texts and rule
-//! texts from a seeded generator, an answer as a list of numbers or as a program's line, stops tried again
-//! with one more of what they name, loads and weeks of windows beside the model, and which requests of
-//! document 02 hold.
+//! texts from a seeded generator, tables and out bytes to lend, an answer as a list of numbers or as a program's
+//! line, stops tried again with one more of what they name, loads, weeks of windows and short codes beside the
+//! model, and which requests of document 02 hold.
 
+pub mod codes;
 pub mod loads;
+pub mod out_bytes;
 pub mod packets;
 pub mod random;
 pub mod stops;
+pub mod tables;
 pub mod texts;
 pub mod trees;
 pub mod weeks;
@@ -86,8 +89,8 @@ pub fn load_of(answer: lazvorn::LoadNumbers) -> model::load::LoadAnswer {
     [answer.refusal, answer.digits]
 }
 
-/// The same of an answer about a week.
-pub fn window_of(answer: lazvorn::WindowNumbers) -> model::week::WindowAnswer {
+/// The same of an answer that gives a number or none.
+pub fn given_of(answer: lazvorn::Given) -> model::Given {
     [answer.refusal, answer.found, answer.number]
 }
 

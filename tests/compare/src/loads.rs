@@ -1,15 +1,13 @@
 //! `generate` beside the model ([10]): counts of digits that a load has and that it has not, out bytes that are
 //! just enough, more, one too few, none or any, and seeds at both ends of 32 bits.
 
+use crate::out_bytes::{different, After, OutBytes};
 use crate::random::Random;
 use model::load::{self, LoadAnswer};
 
 /// The most digits of a load, and the most out bytes that are lent.
 const MOST: usize = 4_095;
 const BYTES: usize = 5_000;
-
-/// So many bytes after those that are lent must stay.
-const BEYOND: usize = 8;
 
 /// How many digits are asked for.
 #[derive(Clone, Copy, Debug, PartialEq, Eq)]
@@ -124,30 +122,25 @@ pub enum Met {
 
 pub const MET: [Met; 3] = [Met::Written, Met::Empty, Met::TooFew];
 
-/// What is asked: a seed, a count of digits, and the out bytes, with those beyond them.
+/// What is asked: a seed, a count of digits, and the out bytes.
 struct Asked {
     seed: u32,
     digits: usize,
-    lent: Vec<u8>,
+    out: OutBytes,
 }
 
 impl Asked {
     fn new(random: &mut Random, seed: Seed, count: Count, out: Out) -> Self {
         let (seed, digits) = (seed.number(random), count.digits(random));
-        let bytes = out.bytes(random, digits) + BEYOND;
-        let lent = (0..bytes).map(|_| random.number() as u8).collect();
-        Asked { seed, digits, lent }
+        let bytes = out.bytes(random, digits);
+        let out = OutBytes::new(random, bytes);
+        Asked { seed, digits, out }
     }
 
     /// What a function answers, and the bytes after it.
-    fn answered(
-        &self,
-        generate: impl Fn(u32, usize, &mut [u8]) -> LoadAnswer,
-    ) -> (LoadAnswer, Vec<u8>) {
-        let mut lent = self.lent.clone();
-        let out = lent.len() - BEYOND;
-        let answer = generate(self.seed, self.digits, &mut lent[..out]);
-        (answer, lent)
+    fn answered(&self, generate: impl Fn(u32, usize, &mut [u8]) -> LoadAnswer) -> After<2> {
+        let call = |out: &mut [u8]| generate(self.seed, self.digits, out);
+        self.out.after(call)
     }
 }
 
@@ -188,8 +181,8 @@ impl Compared {
             let wrong = back.filter(|back| back.as_deref() != Ok(load));
             wrong.map(|back| format!("read and written back as {back:?}"))
         });
-        let Asked { seed, digits, lent } = asked;
-        let bytes = lent.len() - BEYOND;
+        let Asked { seed, digits, out } = asked;
+        let bytes = out.lent();
         wrong.map(|wrong| format!("seed {seed}, {digits} digits, {bytes} out bytes\n{wrong}"))
     }
 }
@@ -201,18 +194,6 @@ fn met(answer: LoadAnswer) -> Met {
         [0, _] => Met::Written,
         _ => Met::TooFew,
     }
-}
-
-/// Where two answers and their bytes differ, if they do.
-fn different(given: &(LoadAnswer, Vec<u8>), expected: &(LoadAnswer, Vec<u8>)) -> Option<String> {
-    if given == expected {
-        return None;
-    }
-    let place = (0..given.1.len()).find(|&i| given.1[i] != expected.1[i]);
-    let (engine, model) = (given.0, expected.0);
-    Some(format!(
-        "engine: {engine:?}\nmodel:  {model:?}; out differs at {place:?}"
-    ))
 }
 
 #[cfg(test)]
@@ -555,10 +536,9 @@ mod tests {
             let inside = !matches!(count, Count::Zero | Count::OneMore | Count::Far);
             for out in OUTS {
                 let asked = Asked::new(random, Seed::Any, count, out);
-                let bytes = asked.lent.len() - BEYOND;
                 let expected = match inside {
                     false => [0, 0],
-                    true if bytes < asked.digits => [10, 0],
+                    true if asked.out.lent() < asked.digits => [10, 0],
                     true => [0, asked.digits],
                 };
                 assert_eq!(asked.answered(load::generate).0, expected);

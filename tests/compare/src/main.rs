@@ -1,17 +1,19 @@
 //! Compares the engine with the second evaluator on packets, run and labelled, and with the model on
 //! packets, on calls of each operation, on texts and their beginnings, on rule texts, on weeks of
-//! windows and on loads: answers and, but for weeks, every lent word and byte. Each stop while
-//! applying is tried again with one more of what it names. Labelled rules are held to the rules alone
-//! too, rule texts printed from random expressions to the expressions, and loads to what comes back
-//! when they are read and written. Prints each difference, of rule texts, weeks and loads the first
-//! few, how often each refusal was met, how many packets used each rule, what became of labels, how
-//! many runs stopped while applying and where, how many of them were tried again and what became of
-//! them, how often each stage of a labelling lacked room, how many calls had two equal nodes or no
-//! free node, what kinds of trees were taken apart or compared, how many labelled rules ran beside a
-//! label, or were rules, that never ended, how many weeks were of each kind and what became of the
-//! minutes asked about, and how many loads had each kind of count, out and seed and what became of
-//! them. The exit status is 1 where anything differs, and where one of these that can be met was met
-//! too seldom for the run to mean something.
+//! windows, on loads and on short codes: answers and, but for weeks, every lent word and byte. Each
+//! stop while applying is tried again with one more of what it names. Labelled rules are held to the
+//! rules alone too, rule texts printed from random expressions to the expressions, loads to what
+//! comes back when they are read and written, and each code to that of its text. Prints each
+//! difference, of rule texts, weeks, loads and codes the first few, how often each refusal was met,
+//! how many packets used each rule, what became of labels, how many runs stopped while applying and
+//! where, how many of them were tried again and what became of them, how often each stage of a
+//! labelling lacked room, how many calls had two equal nodes or no free node, what kinds of trees
+//! were taken apart or compared, how many labelled rules ran beside a label, or were rules, that
+//! never ended, how many weeks were of each kind and what became of the minutes asked about, how many
+//! loads had each kind of count, out and seed and what became of them, and what became of codes, and
+//! of nodes asked for one, by what was wrong with the call and by how many digits their trees have.
+//! The exit status is 1 where anything differs, and where one of these that can be met was met too
+//! seldom for the run to mean something.
 //!
 //! `compare [PACKETS [SEED]]`
 
@@ -24,13 +26,14 @@ mod runs;
 mod same;
 mod unlabel;
 
+use compare::codes::{self, SIZES, TEXTS_MET, WRONG};
 use compare::loads::{self, COUNTS, OUTS, SEEDS};
 use compare::packets::{self, WRONG_LABELS};
 use compare::random::Random;
 use compare::stops::{self, AGAIN, NUMBERS};
 use compare::weeks::{self, KINDS, MET, REFUSED};
-use compare::{load_of, window_of, RULES};
-use model::Memory;
+use compare::{given_of, load_of, RULES};
+use model::{Given, Memory};
 
 /// How many runs of packets and how many calls of each operation a run compares if nothing else is
 /// asked, and from how many expressions it prints rule texts.
@@ -44,10 +47,11 @@ const BEGINNINGS: usize = 20_000;
 /// How many rules are labelled and applied.
 const LABELLED_RULES: usize = 4_000;
 
-/// How many weeks are asked about, how many loads are asked for, and how many differences of each are
-/// printed.
+/// How many weeks are asked about, how many loads and how many nodes' codes are asked for, and how many
+/// differences of each are printed.
 const WEEKS: usize = 20_000;
 const LOADS: usize = 20_000;
+const CODED_NODES: usize = 20_000;
 const SHOWN: usize = 20;
 
 /// How often a packet that is run must meet each refusal from 4 to 10, in how many that succeed each
@@ -68,6 +72,10 @@ const SELDOM_WEEKS: usize = 500;
 /// How many loads must be of each kind and meet each outcome, and how many must be written.
 const SELDOM_LOADS: usize = 1_000;
 const WRITTEN_LOADS: usize = 5_000;
+
+/// How often a code must meet each outcome, and how many nodes must be asked for one with each thing wrong, meet each
+/// outcome and have trees of each size.
+const SELDOM_CODES: usize = 1_000;
 
 /// How often each refusal was met, and 0 for success.
 pub type Counts = [usize; 12];
@@ -328,8 +336,8 @@ fn print_first(wrong: &[String]) -> usize {
 
 /// Compares weeks; how many minutes differ, and how many kinds and outcomes were met too seldom.
 fn compare_weeks(random: &mut Random) -> usize {
-    let window = |week: &[u32], day, minute| window_of(lazvorn::window(week, day, minute));
-    let next = |week: &[u32], day, minute| window_of(lazvorn::next_window(week, day, minute));
+    let window = |week: &[u32], day, minute| given_of(lazvorn::window(week, day, minute));
+    let next = |week: &[u32], day, minute| given_of(lazvorn::next_window(week, day, minute));
     let (mut compared, mut wrong) = (weeks::Compared::default(), Vec::new());
     for _ in 0..WEEKS {
         wrong.extend(compared.compare(random, window, next));
@@ -354,16 +362,22 @@ fn compare_weeks(random: &mut Random) -> usize {
     wrong + seldom.iter().sum::<usize>()
 }
 
-/// A text read by the engine into an empty table and written again, or the refusal. A node for each digit and
-/// a frame for each leaf are enough, and at most half of the digits, rounded up, are leaves.
-fn read_back(text: &[u8]) -> Result<Vec<u8>, usize> {
+/// A text read by the engine into an empty table: the table, the stack and the answer, or the refusal. A node for
+/// each digit and a frame for each leaf are enough, and at most half of the digits, rounded up, are leaves.
+fn read_alone(text: &[u8]) -> Result<(Vec<u32>, Vec<u32>, lazvorn::Numbers), usize> {
     let digits = text.len();
     let (mut table, mut stack) = (vec![0; 2 * digits], vec![0; 3 * digits.div_ceil(2)]);
     let read = lazvorn::read(&mut table, 0, &mut stack, text);
-    if read.refusal != 0 {
-        return Err(read.refusal);
+    match read.refusal {
+        0 => Ok((table, stack, read)),
+        refusal => Err(refusal),
     }
-    let mut out = vec![0; digits];
+}
+
+/// A text read by the engine and written again, or the refusal.
+fn read_back(text: &[u8]) -> Result<Vec<u8>, usize> {
+    let (table, mut stack, read) = read_alone(text)?;
+    let mut out = vec![0; text.len()];
     let written = lazvorn::write(&table, read.used, &mut stack, read.node, &mut out);
     out.truncate(written.digits);
     match written.refusal {
@@ -398,6 +412,45 @@ fn compare_loads(random: &mut Random) -> usize {
     wrong + seldom.iter().sum::<usize>() + few
 }
 
+/// A text read by the engine, and the code of its tree.
+fn read_code(text: &[u8]) -> Given {
+    match read_alone(text) {
+        Ok((table, _, read)) => given_of(lazvorn::code(&table, read.used, read.node)),
+        Err(refusal) => [refusal, 0, 0],
+    }
+}
+
+/// Compares codes; how many differ, and how many kinds and outcomes were met too seldom.
+fn compare_codes(random: &mut Random) -> usize {
+    let code = |table: &mut [u32], used, node| given_of(lazvorn::code(table, used, node));
+    let code_text = |code, out: &mut [u8]| given_of(lazvorn::code_text(code, out));
+    let (mut texts, mut nodes) = (codes::Texts::default(), codes::Nodes::default());
+    let mut wrong = texts.compare(random, code_text, read_code);
+    wrong.extend((0..CODED_NODES).filter_map(|_| nodes.compare(random, code)));
+    let wrong = print_first(&wrong);
+    let [written, too_few, no_text] = texts.met;
+    let mut counts = [0; 11];
+    counts[0] = written + no_text;
+    counts[10] = too_few;
+    print("Code texts", &counts, [10]);
+    let [found, none, refused @ ..] = nodes.met;
+    let mut counts = [found + none, 0, 0, 0];
+    counts[1..].copy_from_slice(&refused);
+    print("Codes", &counts, 1..=3);
+    let seldom = [
+        ("codes met", named(&TEXTS_MET, &texts.met)),
+        (
+            "read again",
+            vec![("the same code".to_string(), texts.again)],
+        ),
+        ("nodes met", named(&codes::MET, &nodes.met)),
+        ("wrong", named(&WRONG, &nodes.wrong)),
+        ("digits of trees", named(&SIZES, &nodes.sizes)),
+    ]
+    .map(|(word, met)| print_met_at_least(SELDOM_CODES, word, &met));
+    wrong + seldom.iter().sum::<usize>()
+}
+
 /// Packets are compared in two threads beside everything else in a third, each from a seed of its own.
 fn main() {
     let words: Vec<u64> = std::env::args()
@@ -417,6 +470,7 @@ fn main() {
             + compare_beginnings(random, noise)
             + compare_weeks(random)
             + compare_loads(random)
+            + compare_codes(random)
     };
     // The model and the second evaluator recurse as deep as trees and frames go.
     let deep = || std::thread::Builder::new().stack_size(1 << 30);

@@ -1,9 +1,10 @@
 //! `same` beside the model, which compares trees and not numbers: on any two nodes of any table, and on
 //! the nodes of two texts, which are equal exactly if their trees are.
 
-use crate::calls::{both, equal_nodes, memory, node, sow, Call, EQUAL_NODES};
+use crate::calls::{both, memory, Call, EQUAL_NODES};
 use crate::Noise;
 use compare::random::Random;
+use compare::tables::{equal_nodes, node, sow};
 use compare::{same_of, trees};
 use model::Memory;
 

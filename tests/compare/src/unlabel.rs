@@ -2,9 +2,10 @@
 //! the rule and the label that they were made of, on such trees with another tree in one place of the
 //! form, and on trees that were labelled earlier, without K before the label.
 
-use crate::calls::{both, equal_nodes, memory, node, sow, spoil, Call, EQUAL_NODES};
+use crate::calls::{both, memory, Call, EQUAL_NODES};
 use crate::Noise;
 use compare::random::Random;
+use compare::tables::{equal_nodes, node, sow, spoil};
 use compare::{parts_of, trees, LABEL_NODES};
 use model::{Memory, Parts};
 

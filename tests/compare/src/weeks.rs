@@ -2,7 +2,8 @@
 //! changed in one number, or noise, at the borders of their windows, of days and of what may be asked.
 
 use crate::random::Random;
-use model::week::{Week, WindowAnswer};
+use model::week::Week;
+use model::Given;
 use std::collections::BTreeSet;
 
 /// How many numbers a week has, and how many minutes a day and a week.
@@ -307,7 +308,7 @@ pub const MET: [Met; 8] = [
 ];
 
 /// When the next window begins, by the minutes until then.
-fn when(day: usize, minute: usize, [_, found, minutes]: WindowAnswer) -> Met {
+fn when(day: usize, minute: usize, [_, found, minutes]: Given) -> Met {
     let begins = day * DAY + minute + minutes;
     match begins % WEEK / DAY {
         _ if found == 0 => Met::Never,
@@ -345,8 +346,8 @@ impl Compared {
     pub fn compare(
         &mut self,
         random: &mut Random,
-        window: impl Fn(&[u32], usize, usize) -> WindowAnswer,
-        next: impl Fn(&[u32], usize, usize) -> WindowAnswer,
+        window: impl Fn(&[u32], usize, usize) -> Given,
+        next: impl Fn(&[u32], usize, usize) -> Given,
     ) -> Vec<String> {
         let kind = if random.once_in(3) {
             Kind::Sound
@@ -386,7 +387,7 @@ impl Compared {
     }
 
     /// Counts what a minute met, in a week that is refused or not.
-    fn count(&mut self, refusal: usize, day: usize, minute: usize, answers: [WindowAnswer; 2]) {
+    fn count(&mut self, refusal: usize, day: usize, minute: usize, answers: [Given; 2]) {
         let [window, next] = answers;
         if refusal != 0 || window[0] != 0 {
             let why = match (refusal, day) {
@@ -407,18 +408,18 @@ impl Compared {
 mod tests {
     use super::*;
 
-    fn model_window(numbers: &[u32], day: usize, minute: usize) -> WindowAnswer {
+    fn model_window(numbers: &[u32], day: usize, minute: usize) -> Given {
         Week::of(numbers).window(day, minute)
     }
 
-    fn model_next(numbers: &[u32], day: usize, minute: usize) -> WindowAnswer {
+    fn model_next(numbers: &[u32], day: usize, minute: usize) -> Given {
         Week::of(numbers).next_window(day, minute)
     }
 
     /// On how many of 1,000 weeks these two differ from the model.
     fn differences(
-        window: impl Fn(&[u32], usize, usize) -> WindowAnswer,
-        next: impl Fn(&[u32], usize, usize) -> WindowAnswer,
+        window: impl Fn(&[u32], usize, usize) -> Given,
+        next: impl Fn(&[u32], usize, usize) -> Given,
     ) -> usize {
         let (random, mut compared) = (&mut Random::new(6), Compared::default());
         let different = |_: &usize| !compared.compare(random, &window, &next).is_empty();
@@ -621,7 +622,7 @@ mod tests {
 
     #[test]
     fn wrong_answers_of_window() {
-        let other_answer = |what, change: fn(&Week, usize, usize) -> WindowAnswer| {
+        let other_answer = |what, change: fn(&Week, usize, usize) -> Given| {
             let window =
                 |numbers: &[u32], day, minute: usize| change(&Week::of(numbers), day, minute);
             noticed(what, differences(window, model_next));
@@ -656,7 +657,7 @@ mod tests {
 
     #[test]
     fn wrong_answers_of_next_window() {
-        let other_answer = |what: &str, change: &dyn Fn(Met, WindowAnswer) -> WindowAnswer| {
+        let other_answer = |what: &str, change: &dyn Fn(Met, Given) -> Given| {
             let next =
                 |numbers: &[u32], day: usize, minute: usize| match model_next(numbers, day, minute)
                 {

@@ -161,19 +161,20 @@ pub struct LoadNumbers {
     pub digits: usize,
 }
 
-/// The three numbers of an answer about a week. Those after the refusal are 0 where there is no window.
+/// The three numbers of an answer that gives a number or none. Those after the refusal are 0 where there is none.
 #[derive(Clone, Copy, Debug, Default, PartialEq, Eq)]
-pub struct WindowNumbers {
+pub struct Given {
     /// 0 for success, else the refusal's number.
     pub refusal: usize,
-    /// 1 if there is a window, else 0.
+    /// 1 if there is a number, else 0.
     pub found: usize,
-    /// The packet number of `window`, the minutes of `next_window`.
+    /// The packet number of `window`, the minutes of `next_window`, the code of `code`, the digits that
+    /// `code_text` wrote.
     pub number: usize,
 }
 
-impl WindowNumbers {
-    /// The packet number or the minutes, none where there is no window, or the refusal's number.
+impl Given {
+    /// The number, none where there is none, or the refusal's number.
     pub fn given(&self) -> Result<Option<usize>, usize> {
         match (self.refusal, self.found) {
             (0, 0) => Ok(None),
@@ -206,6 +207,10 @@ pub const WEEK_NUMBERS: usize = 84;
 /// The most digits that a load has.
 pub const LOAD_DIGITS: usize = 4_095;
 
+/// How many codes there are, and the most digits that the text of one has.
+pub const CODES: usize = 1_374;
+pub const CODE_DIGITS: usize = 10;
+
 /// Table or stack too long, `used` above the capacity, out bytes or step limit too large.
 pub const LIMITS: usize = 1;
 /// A used node is broken, or two used nodes are equal.
@@ -224,7 +229,7 @@ pub const STEPS: usize = 7;
 pub const NODES: usize = 8;
 /// Every frame is held.
 pub const FRAMES: usize = 9;
-/// The out bytes are full, or too few for a rule or a load.
+/// The out bytes are full, or too few for a rule, a load or a code's text.
 pub const OUT: usize = 10;
 /// A tree is not of the labelled form.
 pub const NOT_LABELLED: usize = 11;
@@ -349,6 +354,19 @@ mod raw {
             out_len: usize,
             answer: *mut [usize; 2],
         );
+        pub fn lazvorn_code(
+            table: *const u32,
+            table_len: usize,
+            used: usize,
+            node: usize,
+            answer: *mut [usize; 3],
+        );
+        pub fn lazvorn_code_text(
+            code: usize,
+            out: *mut u8,
+            out_len: usize,
+            answer: *mut [usize; 3],
+        );
         pub fn lazvorn_window(
             week: *const u32,
             week_len: usize,
@@ -399,6 +417,18 @@ fn counted(call: impl FnOnce(*mut [usize; 10])) -> Counted {
         steps,
         digits,
         uses,
+    }
+}
+
+/// The same for what gives a number or none.
+fn given(call: impl FnOnce(*mut [usize; 3])) -> Given {
+    let mut answer = [usize::MAX; 3];
+    call(&mut answer);
+    let [refusal, found, number] = answer;
+    Given {
+        refusal,
+        found,
+        number,
     }
 }
 
@@ -610,31 +640,30 @@ pub fn generate(seed: u32, digits: usize, out: &mut [u8]) -> LoadNumbers {
     LoadNumbers { refusal, digits }
 }
 
-/// An exported function that reads a week.
-type OnWeek = unsafe extern "C" fn(*const u32, usize, usize, usize, *mut [usize; 3]);
+/// The code of the tree of `node`, its place among the trees of at most ten nodes in the order of their values;
+/// none for a tree of more nodes, however large it is. A tree's value is its text as a number in base 3.
+pub fn code(table: &[u32], used: usize, node: usize) -> Given {
+    given(|answer| unsafe { raw::lazvorn_code(table.as_ptr(), table.len(), used, node, answer) })
+}
 
-/// Calls such a function with a week as a pointer and a count.
-unsafe fn on_week(call: OnWeek, week: &[u32], day: usize, minute: usize) -> WindowNumbers {
-    let mut answer = [usize::MAX; 3];
-    call(week.as_ptr(), week.len(), day, minute, &mut answer);
-    let [refusal, found, number] = answer;
-    WindowNumbers {
-        refusal,
-        found,
-        number,
-    }
+/// Writes the text of a code to `out`, at most ten digits; the number given is how many. A code from 1,374 on has
+/// none, whatever `out` is; then fewer bytes than digits are 10, and `out` stays.
+pub fn code_text(code: usize, out: &mut [u8]) -> Given {
+    given(|answer| unsafe { raw::lazvorn_code_text(code, out.as_mut_ptr(), out.len(), answer) })
 }
 
 /// The packet number of the window that holds a minute, in a week of 84 numbers: first, end and packet
 /// of each place, day after day. Any other count of numbers is refused.
-pub fn window(week: &[u32], day: usize, minute: usize) -> WindowNumbers {
-    unsafe { on_week(raw::lazvorn_window, week, day, minute) }
+pub fn window(week: &[u32], day: usize, minute: usize) -> Given {
+    given(|answer| unsafe { raw::lazvorn_window(week.as_ptr(), week.len(), day, minute, answer) })
 }
 
 /// The minutes until the next window begins, in a week as of `window`: 0 where one begins at this minute.
 /// After the week's end come the windows of its days again, up to those of this day that began earlier.
-pub fn next_window(week: &[u32], day: usize, minute: usize) -> WindowNumbers {
-    unsafe { on_week(raw::lazvorn_next_window, week, day, minute) }
+pub fn next_window(week: &[u32], day: usize, minute: usize) -> Given {
+    given(|answer| unsafe {
+        raw::lazvorn_next_window(week.as_ptr(), week.len(), day, minute, answer)
+    })
 }
 
 impl Week {

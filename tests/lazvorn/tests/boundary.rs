@@ -3,9 +3,9 @@
 //! one too few of each, so that an argument in another's place, or a length that is lost, shows.
 
 use lazvorn::{
-    Counted, LoadNumbers, Numbers, Parts, Rule, Same, Stopped, TextNumbers, Uses, Week, Window,
-    WindowNumbers, BROKEN, FRAMES, LIMITS, LOAD_DIGITS, NODE, NODES, NOT_LABELLED, OUT, PACKET,
-    RULE, RULE_TEXT, STEPS, TEXT, WEEK,
+    Counted, Given, LoadNumbers, Numbers, Parts, Rule, Same, Stopped, TextNumbers, Uses, Week,
+    Window, BROKEN, CODES, CODE_DIGITS, FRAMES, LIMITS, LOAD_DIGITS, NODE, NODES, NOT_LABELLED,
+    OUT, PACKET, RULE, RULE_TEXT, STEPS, TEXT, WEEK,
 };
 
 /// Fills memory that is to be left as found, or overwritten.
@@ -1049,7 +1049,7 @@ fn same() {
 /// An operation on a table with so many nodes in use; its refusal.
 type OnTable = fn(&mut Lent, usize) -> usize;
 
-const ON_TABLES: [OnTable; 7] = [
+const ON_TABLES: [OnTable; 8] = [
     |lent, used| {
         let (t, s, _) = lent.parts();
         lazvorn::read(t, used, s, b"0").refusal
@@ -1069,6 +1069,7 @@ const ON_TABLES: [OnTable; 7] = [
     |lent, used| lazvorn::label(lent.parts().0, used, 0, 0).refusal,
     |lent, used| lazvorn::unlabel(lent.parts().0, used, 0).refusal,
     |lent, used| lazvorn::same(lent.parts().0, used, 0, 0).refusal,
+    |lent, used| lazvorn::code(lent.parts().0, used, 0).refusal,
 ];
 
 /// Two equal used nodes are 2 to every operation on a table, and all memory stays as found. Where the
@@ -1176,6 +1177,14 @@ fn rule_text_on_a_stack_of_1_mib() {
 
 extern "C" {
     fn lazvorn_generate(seed: u32, digits: usize, out: *mut u8, out_len: usize, answer: *mut usize);
+    fn lazvorn_code(
+        table: *const u32,
+        table_len: usize,
+        used: usize,
+        node: usize,
+        answer: *mut usize,
+    );
+    fn lazvorn_code_text(code: usize, out: *mut u8, out_len: usize, answer: *mut usize);
     fn lazvorn_window(
         week: *const u32,
         week_len: usize,
@@ -1192,57 +1201,62 @@ extern "C" {
     );
 }
 
-/// A function of the library that reads a week, and its safe form.
-type OnWeek = (
-    unsafe extern "C" fn(*const u32, usize, usize, usize, *mut usize),
-    fn(&[u32], usize, usize) -> WindowNumbers,
-);
-
-const WINDOW: OnWeek = (lazvorn_window, lazvorn::window);
-const NEXT_WINDOW: OnWeek = (lazvorn_next_window, lazvorn::next_window);
-
-/// Calls such a function with noise around the week and around the answer. Nothing but the answer's three
-/// numbers may be written, and the safe form must answer the same.
-fn ask((call, safe): OnWeek, week: &[u32], day: usize, minute: usize) -> WindowNumbers {
-    let noise = &[NOISE; BEYOND][..];
-    let mut lent = [noise, week, noise].concat();
-    let found = lent.clone();
-    let mut numbers = [usize::MAX - 1; BEYOND + 3 + BEYOND];
-    unsafe {
-        let (week_at, answer_at) = (lent.as_mut_ptr(), numbers.as_mut_ptr());
-        let (week_at, answer_at) = (week_at.add(BEYOND), answer_at.add(BEYOND));
-        call(week_at, week.len(), day, minute, answer_at);
-    }
-    assert_eq!(lent, found);
-    let (before, rest) = numbers.split_at(BEYOND);
-    let (answer, after) = rest.split_at(3);
-    assert_eq!([before, after], [&[usize::MAX - 1; BEYOND]; 2]);
-    let answer = WindowNumbers {
-        refusal: answer[0],
-        found: answer[1],
-        number: answer[2],
-    };
-    assert_eq!(safe(week, day, minute), answer);
-    answer
+/// The N numbers that a call writes to its answer, with noise around them, which stays.
+fn answered<const N: usize>(call: impl FnOnce(*mut usize)) -> [usize; N] {
+    let noise = [usize::MAX - 1; BEYOND];
+    let mut numbers = [&noise[..], &[usize::MAX - 1; N], &noise].concat();
+    call(numbers[BEYOND..].as_mut_ptr());
+    assert_eq!(numbers[..BEYOND], noise);
+    assert_eq!(numbers[BEYOND + N..], noise);
+    std::array::from_fn(|i| numbers[BEYOND + i])
 }
 
-/// The packet number or the minutes of a week that is not broken.
-fn given(number: usize) -> WindowNumbers {
-    WindowNumbers {
-        refusal: 0,
-        found: 1,
+fn given_of([refusal, found, number]: [usize; 3]) -> Given {
+    Given {
+        refusal,
+        found,
         number,
     }
 }
 
-const NO_WINDOW: WindowNumbers = WindowNumbers {
-    refusal: 0,
-    found: 0,
-    number: 0,
-};
+/// A function of the library that reads words and two numbers and gives a number or none, and its safe form.
+type OnWords = (
+    unsafe extern "C" fn(*const u32, usize, usize, usize, *mut usize),
+    fn(&[u32], usize, usize) -> Given,
+);
 
-const REFUSED_WEEK: WindowNumbers = WindowNumbers {
-    refusal: WEEK,
+const WINDOW: OnWords = (lazvorn_window, lazvorn::window);
+const NEXT_WINDOW: OnWords = (lazvorn_next_window, lazvorn::next_window);
+const CODE: OnWords = (lazvorn_code, lazvorn::code);
+
+/// Calls such a function with noise around the words and around the answer. Nothing but the answer's three
+/// numbers may be written, and the safe form must answer the same.
+fn ask((call, safe): OnWords, words: &[u32], first: usize, second: usize) -> Given {
+    let noise = &[NOISE; BEYOND][..];
+    let mut lent = [noise, words, noise].concat();
+    let found = lent.clone();
+    let answer = answered(|answer| unsafe {
+        let words_at = lent.as_mut_ptr().add(BEYOND);
+        call(words_at, words.len(), first, second, answer);
+    });
+    assert_eq!(lent, found);
+    let answer = given_of(answer);
+    assert_eq!(safe(words, first, second), answer);
+    answer
+}
+
+/// An answer that gives a number.
+fn given(number: usize) -> Given {
+    given_of([0, 1, number])
+}
+
+/// An answer that gives none, or is refused.
+fn none_given(refusal: usize) -> Given {
+    given_of([refusal, 0, 0])
+}
+
+const NONE: Given = Given {
+    refusal: 0,
     found: 0,
     number: 0,
 };
@@ -1262,7 +1276,7 @@ fn is_refused(week: &[u32]) {
     for (day, minute) in [(0, 0), (3, 25), (6, 1_439), (7, 0), (0, 1_440)] {
         for function in [WINDOW, NEXT_WINDOW] {
             let answer = ask(function, week, day, minute);
-            assert_eq!(answer, REFUSED_WEEK, "{day} {minute} {week:?}");
+            assert_eq!(answer, none_given(WEEK), "{day} {minute} {week:?}");
         }
     }
 }
@@ -1335,7 +1349,7 @@ fn windows_of_a_week() {
     ]);
     for (day, minute, packet, minutes) in MINUTES {
         let window = match packet {
-            0 => NO_WINDOW,
+            0 => NONE,
             packet => given(packet),
         };
         assert_eq!(ask(WINDOW, &week, day, minute), window, "{day} {minute}");
@@ -1410,8 +1424,8 @@ fn next_window_past_the_weeks_end() {
 fn a_week_without_windows() {
     for day in 0..7 {
         for minute in [0, 1, 720, 1_439] {
-            assert_eq!(ask(WINDOW, &[0; 84], day, minute), NO_WINDOW);
-            assert_eq!(ask(NEXT_WINDOW, &[0; 84], day, minute), NO_WINDOW);
+            assert_eq!(ask(WINDOW, &[0; 84], day, minute), NONE);
+            assert_eq!(ask(NEXT_WINDOW, &[0; 84], day, minute), NONE);
         }
     }
 }
@@ -1543,16 +1557,24 @@ fn days_and_minutes() {
     };
     for function in [WINDOW, NEXT_WINDOW] {
         for day in beyond(7) {
-            assert_eq!(ask(function, &week, day, 0), REFUSED_WEEK, "{day}");
-            assert_eq!(ask(function, &week, day, 1_440), REFUSED_WEEK, "{day}");
+            assert_eq!(ask(function, &week, day, 0), none_given(WEEK), "{day}");
+            assert_eq!(ask(function, &week, day, 1_440), none_given(WEEK), "{day}");
         }
         for minute in beyond(1_440) {
-            assert_eq!(ask(function, &week, 0, minute), REFUSED_WEEK, "{minute}");
-            assert_eq!(ask(function, &week, 6, minute), REFUSED_WEEK, "{minute}");
+            assert_eq!(
+                ask(function, &week, 0, minute),
+                none_given(WEEK),
+                "{minute}"
+            );
+            assert_eq!(
+                ask(function, &week, 6, minute),
+                none_given(WEEK),
+                "{minute}"
+            );
         }
         // Without windows there is as little to ask beyond the borders.
-        assert_eq!(ask(function, &[0; 84], 7, 0), REFUSED_WEEK);
-        assert_eq!(ask(function, &[0; 84], 0, 1_440), REFUSED_WEEK);
+        assert_eq!(ask(function, &[0; 84], 7, 0), none_given(WEEK));
+        assert_eq!(ask(function, &[0; 84], 0, 1_440), none_given(WEEK));
     }
 }
 
@@ -1596,31 +1618,34 @@ fn weeks_of_rust() {
     assert_eq!(week.next_window(0, 104), Err(WEEK));
 }
 
-/// Calls `generate` with so many out bytes, with noise before and after them and around the answer. Nothing but
-/// the out bytes and the answer's two numbers may be written, and the safe form must do the same. Gives the
-/// answer and the out bytes.
-fn generate_in(seed: u32, digits: usize, out: usize) -> (LoadNumbers, Vec<u8>) {
+/// Calls a function with so many out bytes, with noise before and after them and around the answer. Nothing but the
+/// out bytes and the answer's N numbers may be written. Gives the answer and the out bytes.
+fn into_out<const N: usize>(
+    out: usize,
+    call: impl FnOnce(*mut u8, *mut usize),
+) -> ([usize; N], Vec<u8>) {
     let mut lent = vec![BYTE; BEYOND + out + BEYOND];
-    let mut numbers = [usize::MAX - 1; BEYOND + 2 + BEYOND];
-    unsafe {
-        let (out_at, answer_at) = (lent.as_mut_ptr(), numbers.as_mut_ptr());
-        let (out_at, answer_at) = (out_at.add(BEYOND), answer_at.add(BEYOND));
-        lazvorn_generate(seed, digits, out_at, out, answer_at);
-    }
-    let (before, rest) = numbers.split_at(BEYOND);
-    let (answer, after) = rest.split_at(2);
-    assert_eq!([before, after], [&[usize::MAX - 1; BEYOND]; 2]);
-    let answer = LoadNumbers {
-        refusal: answer[0],
-        digits: answer[1],
-    };
+    let answer = answered(|answer| call(lent[BEYOND..].as_mut_ptr(), answer));
     let (before, rest) = lent.split_at(BEYOND);
     let (bytes, after) = rest.split_at(out);
     assert_eq!([before, after], [&[BYTE; BEYOND]; 2]);
+    (answer, bytes.to_vec())
+}
+
+/// Calls `generate` with so many out bytes. The safe form must do the same. Gives the answer and the out bytes.
+fn generate_in(seed: u32, digits: usize, out: usize) -> (LoadNumbers, Vec<u8>) {
+    let (answer, bytes) = into_out(out, |out_at, answer| unsafe {
+        lazvorn_generate(seed, digits, out_at, out, answer)
+    });
+    let [refusal, digits_given] = answer;
+    let answer = LoadNumbers {
+        refusal,
+        digits: digits_given,
+    };
     let mut safe = vec![BYTE; out];
     assert_eq!(lazvorn::generate(seed, digits, &mut safe), answer);
     assert_eq!(safe, bytes);
-    (answer, safe)
+    (answer, bytes)
 }
 
 /// A load of so many digits, with as many out bytes.
@@ -1838,6 +1863,233 @@ fn loads_are_read() {
     }
 }
 
+/// Some codes and their texts, worked out from document 02, as all of these are: the first and the last of each
+/// count of digits, and others.
+const TEXTS_OF_CODES: [(usize, &str); 38] = [
+    (0, "0"),
+    (1, "10"),
+    (2, "110"),
+    (3, "200"),
+    (4, "1110"),
+    (5, "1200"),
+    (6, "2010"),
+    (7, "2100"),
+    (8, "11110"),
+    (11, "12100"),
+    (12, "20110"),
+    (14, "21010"),
+    (16, "22000"),
+    (17, "111110"),
+    (24, "121100"),
+    (27, "201200"),
+    (36, "220100"),
+    (37, "221000"),
+    (38, "1111110"),
+    (55, "1212000"),
+    (63, "2020110"),
+    (81, "2200200"),
+    (88, "2220000"),
+    (89, "11111110"),
+    (131, "12200110"),
+    (152, "20202100"),
+    (214, "22201000"),
+    (215, "22210000"),
+    (216, "111111110"),
+    (323, "122010200"),
+    (377, "202110110"),
+    (537, "222110000"),
+    (538, "222200000"),
+    (539, "1111111110"),
+    (817, "1220201100"),
+    (956, "2021200200"),
+    (1_372, "2222010000"),
+    (1_373, "2222100000"),
+];
+
+/// Texts of eleven digits: the first and the last by their values, others, and a stem over the last of ten.
+const ELEVEN_DIGITS: [&str; 6] = [
+    "11111111110",
+    "12222100000",
+    "20202112000",
+    "20220020200",
+    "22101021010",
+    "22222000000",
+];
+
+/// Reads a text into a table with three nodes in use, and asks for the code of its tree.
+fn code_of(text: &[u8]) -> Given {
+    let mut table = table(6 + 2 * text.len());
+    let mut stack = vec![NOISE; 3 * text.len()];
+    let read = lazvorn::read(&mut table, 3, &mut stack, text);
+    assert_eq!(read.refusal, 0);
+    ask(CODE, &table, read.used, read.node)
+}
+
+/// Ten digits have a code, and eleven have none.
+#[test]
+fn codes_of_texts() {
+    for (code, text) in TEXTS_OF_CODES {
+        assert_eq!(code_of(text.as_bytes()), given(code), "{text}");
+    }
+    for text in ELEVEN_DIGITS {
+        assert_eq!(code_of(text.as_bytes()), NONE, "{text}");
+    }
+    assert_eq!(code_of(b"212101021010"), NONE);
+    assert_eq!(code_of(&[b"20".repeat(4_000), vec![b'0']].concat()), NONE);
+}
+
+/// The nodes of `LABELLED` are 0, 10, 2010, 110, 21102010, 202010, 1202010, and the whole of sixteen digits.
+#[test]
+fn codes_of_nodes() {
+    let codes = [0, 1, 6, 2, 172, 28, 49].map(given);
+    for length in [16, 17, 18, 131_072] {
+        let mut table = vec![NOISE; length];
+        table[..16].copy_from_slice(&LABELLED);
+        for (node, code) in codes.into_iter().chain([NONE]).enumerate() {
+            assert_eq!(ask(CODE, &table, 8, node), code, "{node}");
+            // The nodes after it need not be in use.
+            assert_eq!(ask(CODE, &table, node + 1, node), code, "{node}");
+        }
+    }
+}
+
+/// 1, 2 and 3 in this order, and the answer's other numbers 0.
+#[test]
+fn codes_refused() {
+    let call = |words: &[u32], length: usize, used, node| {
+        let mut table = vec![NOISE; length.max(words.len())];
+        table[..words.len()].copy_from_slice(words);
+        ask(CODE, &table[..length], used, node)
+    };
+    let most = usize::MAX;
+    let [limits, broken, bad_node] = [LIMITS, BROKEN, NODE].map(none_given);
+    assert_eq!(call(&LABELLED, 131_073, 8, 0), limits);
+    assert_eq!(call(&LABELLED, 17, 9, 0), limits);
+    assert_eq!(call(&LABELLED, 15, 8, 0), limits);
+    assert_eq!(call(&LABELLED, 16, most, 0), limits);
+    assert_eq!(call(&LABELLED, 16, 1 << 32, 0), limits);
+    assert_eq!(call(&[], 0, 1, 0), limits);
+    // Node 8 is noise: broken where it is in use, and nothing where it is not.
+    assert_eq!(call(&LABELLED, 18, 9, 0), broken);
+    assert_eq!(call(&LABELLED, 18, 8, 0), given(0));
+    // 1 before 2 and 3, and 2 before 3.
+    assert_eq!(call(&LABELLED, 131_073, 9, 9), limits);
+    assert_eq!(call(&LABELLED, 19, 10, most), limits);
+    assert_eq!(call(&LABELLED, 18, 9, 9), broken);
+    assert_eq!(call(&LABELLED, 18, 9, most), broken);
+    for node in [8, 9, 1 << 32, most] {
+        assert_eq!(call(&LABELLED, 16, 8, node), bad_node, "{node}");
+    }
+    assert_eq!(call(&LABELLED, 16, 6, 6), bad_node);
+    assert_eq!(call(&[], 0, 0, 0), bad_node);
+    assert_eq!(call(&[NOISE], 1, 0, 0), bad_node);
+    // A node that the tree does not reach: broken, equal to another, and neither.
+    for words in [[0, 1], [0, 0], [1, 2], [9, 0], [1, 9]] {
+        let with = [&LABELLED[..], &words].concat();
+        assert_eq!(call(&with, 18, 9, 0), broken, "{words:?}");
+        assert_eq!(call(&with, 18, 8, 0), given(0), "{words:?}");
+    }
+    assert_eq!(call(&[&LABELLED[..], &[1, 1]].concat(), 18, 9, 8), given(3));
+}
+
+/// Each node but the leaf is the fork of the one before it twice, so that node n has 2^(n + 1) - 1 digits. None is
+/// given at once, also under stems, so that a count of digits that lost its upper bits is small, and in a table
+/// that is full.
+#[test]
+fn codes_of_trees_that_are_long() {
+    let doubled = |nodes: u32| (0..nodes).flat_map(|n| [n, n]).collect::<Vec<u32>>();
+    for nodes in [4, 5, 9, 17, 32, 33, 64, 65, 100, 1_000, 65_536 - 12] {
+        let mut table = doubled(nodes);
+        for code in [(0, 0), (1, 3), (2, 81)] {
+            assert_eq!(ask(CODE, &table, nodes as usize, code.0), given(code.1));
+        }
+        for stems in 0..12 {
+            let used = table.len() / 2;
+            assert_eq!(ask(CODE, &table, used, used - 1), NONE, "{nodes} {stems}");
+            table.extend([used as u32, 0]);
+        }
+    }
+    // Such a tree is the first branch of one, and the second of another.
+    let mut table = doubled(80);
+    table.extend([1, 80, 80, 1]);
+    for node in 3..82 {
+        assert_eq!(ask(CODE, &table, 82, node), NONE, "{node}");
+    }
+}
+
+/// Calls `code_text` with so many out bytes. The safe form must do the same. Gives the answer and the out bytes.
+fn code_text_in(code: usize, out: usize) -> (Given, Vec<u8>) {
+    let (answer, bytes) = into_out(out, |out_at, answer| unsafe {
+        lazvorn_code_text(code, out_at, out, answer)
+    });
+    let answer = given_of(answer);
+    let mut safe = vec![BYTE; out];
+    assert_eq!(lazvorn::code_text(code, &mut safe), answer);
+    assert_eq!(safe, bytes);
+    (answer, bytes)
+}
+
+/// The text of a code, with as many out bytes as are enough for any.
+fn text_of(code: usize) -> Vec<u8> {
+    let (answer, mut bytes) = code_text_in(code, CODE_DIGITS);
+    assert_eq!((answer.refusal, answer.found), (0, 1), "{code}");
+    assert!(bytes[answer.number..].iter().all(|byte| *byte == BYTE));
+    bytes.truncate(answer.number);
+    bytes
+}
+
+/// As many out bytes as digits are enough, and those past them stay; one fewer is too few, and all stay. There is
+/// no most.
+#[test]
+fn texts_of_codes() {
+    for (code, text) in TEXTS_OF_CODES {
+        let digits = text.len();
+        assert_eq!(text_of(code), text.as_bytes(), "{code}");
+        for more in [0, 1, 2, 70_000] {
+            let (answer, bytes) = code_text_in(code, digits + more);
+            assert_eq!(answer, given(digits), "{code}");
+            assert_eq!(bytes[..digits], *text.as_bytes(), "{code}");
+            assert!(bytes[digits..].iter().all(|byte| *byte == BYTE), "{code}");
+        }
+        for out in 0..digits {
+            let found = vec![BYTE; out];
+            assert_eq!(code_text_in(code, out), (none_given(OUT), found), "{code}");
+        }
+    }
+}
+
+/// A code from 1,374 on has no text, however many out bytes there are, and they stay.
+#[test]
+fn codes_without_a_text() {
+    let near = [CODES, CODES + 1, 58_563, 65_535, usize::MAX - 1, usize::MAX];
+    let far = [11, 16, 31, 32, 48, 63].map(|bits| (1_usize << bits) + 14);
+    for code in [near, far].concat() {
+        for out in [0, 1, 4, 5, 9, 10, 11, 5_000] {
+            assert_eq!(code_text_in(code, out), (NONE, vec![BYTE; out]), "{code}");
+        }
+    }
+}
+
+/// All 1,374 texts: how many digits are 0, 1 and 2, the sum of the values, which ascend, and the fingerprint of the
+/// texts with a newline between each two. Each text's code is the one that it was written for.
+#[test]
+fn all_codes() {
+    let texts: Vec<Vec<u8>> = (0..CODES).map(text_of).collect();
+    let count = |digit| texts.concat().iter().filter(|byte| **byte == digit).count();
+    assert_eq!([b'0', b'1', b'2'].map(count), [4_862, 4_476, 3_488]);
+    let value = |text: &Vec<u8>| {
+        text.iter()
+            .fold(0, |n, byte| 3 * n + u32::from(byte - b'0'))
+    };
+    let values: Vec<u32> = texts.iter().map(value).collect();
+    assert!(values.windows(2).all(|pair| pair[0] < pair[1]));
+    assert_eq!(values.iter().sum::<u32>(), 42_212_778);
+    assert_eq!(fingerprint(&texts.join(&b'\n')), 0x8fa0_d1da_12c0_cc0f);
+    for (code, text) in texts.iter().enumerate() {
+        assert_eq!(code_of(text), given(code));
+    }
+}
+
 /// Every call with a table of so many words, on a packet with this rule. Each refusal but that of `unlabel`
 /// is `refusal`, where nodes are to be made for the rule, else 0.
 fn each_call(words: usize, rule: &[u8], refusal: usize) {
@@ -1860,8 +2112,10 @@ fn each_call(words: usize, rule: &[u8], refusal: usize) {
     assert_eq!(lazvorn::label(&mut lent, 3, 2, 1).refusal, 0);
     assert_eq!(lazvorn::unlabel(&lent, 3, 2).refusal, NOT_LABELLED);
     assert_eq!(lazvorn::same(&lent, 3, 2, 1).refusal, 0);
-    assert_eq!(lazvorn::window(&[0; 84], 6, 1_439), NO_WINDOW);
-    assert_eq!(lazvorn::next_window(&[0; 84], 6, 1_439), NO_WINDOW);
+    assert_eq!(lazvorn::code(&lent, 3, 2), given(6));
+    assert_eq!(lazvorn::code_text(CODES - 1, &mut out), given(CODE_DIGITS));
+    assert_eq!(lazvorn::window(&[0; 84], 6, 1_439), NONE);
+    assert_eq!(lazvorn::next_window(&[0; 84], 6, 1_439), NONE);
     assert_eq!(lazvorn::generate(1, LOAD_DIGITS, &mut out).refusal, 0);
     assert_eq!(
         lazvorn::run(&mut lent, &mut stack, &mut out, &packet).refusal,
@@ -1891,10 +2145,27 @@ fn a_stop(words: usize, rule: &[u8], refusal: usize) {
     assert_eq!(stopped, expected);
 }
 
-/// The stack that include/lazvorn.h names for each length of table, and what a thread itself needs.
+/// The stack that a thread itself needs.
+const OWN: usize = 16 << 10;
+
+/// The stack that include/lazvorn.h names for `code_text`.
+#[test]
+fn code_text_on_a_stack_of_8_kib() {
+    let texts = || {
+        let mut out = [BYTE; CODE_DIGITS];
+        (0..CODES).all(|code| lazvorn::code_text(code, &mut out).found == 1)
+    };
+    let thread = std::thread::Builder::new().stack_size((8 << 10) + OWN);
+    assert!(thread
+        .spawn(texts)
+        .expect("a thread")
+        .join()
+        .expect("texts"));
+}
+
+/// The stack that include/lazvorn.h names for each length of table.
 #[test]
 fn calls_on_the_stack_that_the_header_names() {
-    const OWN: usize = 16 << 10;
     // One abstraction over applications that nest to the right, as many as 4,096 bytes have room for.
     let deep = [&[2][..], &[1, 0].repeat(2_047), &[0]].concat();
     for (words, kib) in [

@@ -8,6 +8,7 @@
 use std::collections::{HashMap, HashSet};
 use std::rc::Rc;
 
+pub mod code;
 pub mod load;
 pub mod rule_text;
 pub mod week;
@@ -36,6 +37,9 @@ pub type Same = [usize; 2];
 /// the steps of the whole run and the rule wanted, from 1 for leaf to 5 for triage; else 0 for these.
 pub type Stopped = [usize; 4];
 
+/// Of what may be none ([6], [12]): refusal, 1 or 0 whether there is one, and its number.
+pub type Given = [usize; 3];
+
 /// How often each rule was used.
 type Uses = [usize; 5];
 
@@ -45,6 +49,15 @@ fn counted(answer: Answer, uses: Uses) -> Counted {
 
 /// A refusal's number.
 type Refusal = usize;
+
+/// A number, none, or a refusal, as an answer's numbers.
+fn given(number: Result<Option<usize>, Refusal>) -> Given {
+    match number {
+        Ok(Some(number)) => [0, 1, number],
+        Ok(None) => [0, 0, 0],
+        Err(refusal) => [refusal, 0, 0],
+    }
+}
 
 impl Memory {
     fn frames(&self) -> usize {

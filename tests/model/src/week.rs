@@ -2,10 +2,7 @@
 //! number of the window that holds it, and whether a window begins there; then minutes are looked up and
 //! counted one by one.
 
-use crate::Refusal;
-
-/// Refusal, 1 or 0 whether there is a window, and the packet number or the minutes.
-pub type WindowAnswer = [usize; 3];
+use crate::{given, Given, Refusal};
 
 /// The minutes of a day and of a week.
 const DAY: usize = 1_440;
@@ -66,15 +63,6 @@ fn minutes(numbers: &[u32]) -> Result<Vec<Minute>, Refusal> {
     Ok(minutes)
 }
 
-/// What is given, none, or a refusal, as an answer's numbers.
-fn answer(given: Result<Option<usize>, Refusal>) -> WindowAnswer {
-    match given {
-        Ok(Some(number)) => [0, 1, number],
-        Ok(None) => [0, 0, 0],
-        Err(number) => [number, 0, 0],
-    }
-}
-
 impl Week {
     pub fn of(numbers: &[u32]) -> Self {
         Week(minutes(numbers).ok())
@@ -91,15 +79,15 @@ impl Week {
     }
 
     /// "the packet number, or none exactly when no window holds that minute"
-    pub fn window(&self, day: usize, minute: usize) -> WindowAnswer {
+    pub fn window(&self, day: usize, minute: usize) -> Given {
         let now = self.from(day, minute).map(|mut minutes| minutes.next());
-        answer(now.map(|now| now.and_then(|minute| minute.packet).map(usize::from)))
+        given(now.map(|now| now.and_then(|minute| minute.packet).map(usize::from)))
     }
 
     /// "the minutes until the next window begins, wrapping once past the week's end; a window beginning now
     /// counts as 0, and a week without windows has none"
-    pub fn next_window(&self, day: usize, minute: usize) -> WindowAnswer {
+    pub fn next_window(&self, day: usize, minute: usize) -> Given {
         let minutes = self.from(day, minute);
-        answer(minutes.map(|mut minutes| minutes.position(|minute| minute.begins)))
+        given(minutes.map(|mut minutes| minutes.position(|minute| minute.begins)))
     }
 }
