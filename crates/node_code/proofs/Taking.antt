@@ -17,7 +17,6 @@ use Rattle.ternary.proofs.OneText.{length-text}
 use Rattle.short_codes.specs.Values.{valueAfter, valueFrom}
 use Rattle.short_codes.proofs.Numerals.{text-digits, value-append, power-few, value-below}
 use Rattle.node_code.specs.Code.{takenText}
-use Rattle.node_code.specs.declared.Taken.{Taken}
 use Rattle.node_code.specs.declared.Taken.the-variants.{Digits, Long}
 
 -- a value of at most ten digits is below 59,049

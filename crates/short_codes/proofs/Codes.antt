@@ -16,7 +16,7 @@ use Rattle.table.proofs.Words.{zero-one}
 use Rattle.ternary.specs.Text.{text}
 use Rattle.short_codes.specs.Values.{value, values, numeral}
 use Rattle.short_codes.specs.ShortCodes.{placeFrom, codeOf}
-use Rattle.short_codes.specs.Claims.{HoldsValues, IsCode}
+use Rattle.short_codes.specs.Claims.{IsCode}
 use Rattle.short_codes.proofs.Numerals.{text-numeral, value-unique}
 use Rattle.short_codes.proofs.Holding.{values-hold, one-table, values-many}
 

@@ -1,6 +1,6 @@
 -- The answers of the two operations, each exactly on its condition. Assumes nothing.
 use Prim.Native.Nat.{ℕ, _≤_, _<_}
-use mathlib.Core.Path.{_≡_, refl, sym, ap, subst, _∙_}
+use mathlib.Core.Path.{_≡_, refl, sym, subst, _∙_}
 use mathlib.Core.Bool.{Bool, true, false, cond}
 use mathlib.Core.List.{List, [], _++_}
 use mathlib.Core.Logic.{_↔_}
@@ -22,7 +22,7 @@ use Rattle.table.proofs.Words.{zero-one}
 use Rattle.ternary.specs.Text.{text}
 use Rattle.ternary.proofs.OneText.{length-text}
 use Rattle.short_codes.specs.ShortCodes.{codeOf, code, codeText}
-use Rattle.short_codes.specs.Claims.{IsCode, Askable, Coded, CodeTexts}
+use Rattle.short_codes.specs.Claims.{IsCode, Coded, CodeTexts}
 use Rattle.short_codes.specs.Claims.Coded.{at-entry, not-in-use, too-many, coded}
 use Rattle.short_codes.specs.Claims.CodeTexts.{no-code, no-room, written}
 use Rattle.short_codes.proofs.Codes.{code-of-exactly, none-exactly, code-below, every-code, code-numeral}

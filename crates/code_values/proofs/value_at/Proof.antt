@@ -1,7 +1,6 @@
 -- `code_values::value_at` meets its contract: a test over the whole of the constant says that it is the table, and so each of its entries is the table's.
 -- Assumes nothing.
 use mathlib.Core.Path.{refl}
-use native.Mathlib.Omega.{arith}
 use Rattle.short_codes.specs.Values.{valueAfter, valuesFrom, valuesTo, values}
 use Rattle.short_codes.proofs.Holding.{eachSame, isValues, tested-entry}
 use borrow.Author.Needs.{needs}
