@@ -1,12 +1,12 @@
 -- The binary search in the table of values. Assumes nothing.
 use Prim.Native.Nat.{ℕ, _+_, _≤_, _<_}
 use mathlib.Core.Path.{_≡_, refl, sym}
-use mathlib.Core.Bool.{true}
 use mathlib.Core.List.{List}
 use native.Mathlib.Omega.{arith}
 use lib.ListN.{getD}
 use Rattle.short_codes.specs.Values.{valueAfter, valuesFrom, valuesTo, values}
-use Rattle.short_codes.proofs.Holding.{isValues, tested-values, value-small}
+use Rattle.short_codes.specs.Claims.{HoldsValues}
+use Rattle.short_codes.proofs.Holding.{one-table, value-small}
 use Rattle.code_values.specs.Code.{PlaceFor}
 
 -- between two places, in the list l that is the table: the value at the first is at most v, and the one at the second, if there is one, is above it
@@ -21,10 +21,10 @@ first-value : getD values 0 0 ≡ 0
 unfolding values valuesTo valuesFrom valueAfter
 first-value = refl
 
-pub search-start : (v : ℕ) (l : List ℕ) → isValues l ≡ true → Searching v l 0 1374
-search-start v l e =
+pub search-start : (v : ℕ) (l : List ℕ) → HoldsValues l → Searching v l 0 1374
+search-start v l h =
     record {
-      whole = tested-values l e;
+      whole = one-table l h;
       ordered = omega arith;
       within = omega arith;
       at-most = omega (arith, first-value);

@@ -1,10 +1,11 @@
-// The table of values ([12]): the values of all trees of at most ten nodes, ascending, 1,374 of them. The definition and its theorems are in the crate
+// The table of values ([12]) as a constant, the value at a place of it, and the place of a value. The definition and its theorems are in the crate
 // `short_codes`; specs/ says what a place tells in their terms. The program `codes` makes the values anew, and the merge gate holds what it prints against
-// this constant. A constant array is a value, which is copied where it is used, so a search copies it once.
+// the constant. Assumes nothing.
 ghost use mathlib.Core.Path.{_≡_};
 ghost use Prim.Native.Nat.{_<_};
 ghost use lib.ListN.{getD};
 ghost use Rattle.short_codes.specs.Values.{values};
+ghost use Rattle.short_codes.specs.Claims.{HoldsValues};
 ghost use Rattle.code_values.specs.Code.{PlaceFor};
 
 const VALUES: [u32; 1374] = [
@@ -1384,19 +1385,28 @@ const VALUES: [u32; 1374] = [
     58563,
 ];
 
+// The table as a value: it holds the values of all these trees and nothing else, ascending, by one test that the checker computes over the whole of it.
+fn all_values() -> [u32; 1374]
+    ensures { λ r. ⌜ HoldsValues r ⌝ }
+{
+    VALUES
+}
+
 // The value at a place of the table, counting from 0.
 pub fn value_at(place: usize) -> u32
     requires { ⌜ place < 1374 ⌝ }
     ensures { λ r. ⌜ r ≡ getD values place 0 ⌝ }
 {
-    VALUES[place]
+    let values = all_values();
+    values[place]
 }
 
 // The place of the greatest value of the table that is at most `value`, by binary search.
-pub fn place_of(value: usize) -> usize
+pub fn place_at_most(value: usize) -> usize
     ensures { λ r. ⌜ PlaceFor value r ⌝ }
 {
-    let values = VALUES;
+    // An array is a value, which is copied where it is used: a search copies it once.
+    let values = all_values();
     let mut low = 0;
     let mut high = 1374;
     while low + 1 < high {

@@ -15,7 +15,7 @@ use Rattle.table.specs.Outcome.{atEntry, unless}
 use Rattle.table.specs.declared.Refusal.{Refusal}
 use Rattle.table.specs.declared.Refusal.the-variants.{Node, Label}
 use Rattle.table.proofs.Words.{zero-one}
-use Rattle.table.proofs.Branches.{stem-branch, fork-branches}
+use Rattle.table.proofs.Branches.{branch-of, branches-of}
 use Rattle.table.proofs.Entry.{entered, entry-lacks, lacks-entry}
 use Rattle.labelled.specs.Label.{labelled}
 use Rattle.labelled.specs.Unlabel.{isLabelled, labelNode, ruleNode, unlabelNode, unlabel}
@@ -34,15 +34,15 @@ record Holds (w : List ℕ) (v : ℕ) (f t : Tree) : Type 0 where
 holds : {w : List ℕ} {v : ℕ} (f t : Tree) → InUse w v → treeAt w v ≡ labelled f t → Holds w v f t
 unfolding ruleNode labelNode
 holds {w} {v} f t i e =
-    let k = fork-branches i e in
+    let k = branches-of i e in
     let x : treeAt w (left w v) ≡ stem (fork leaf t) = cc (k .tree) in
     let y : treeAt w (right w v) ≡ fork (stem f) (fork leaf (stem leaf)) = cc (k .tree) in
-    let s = stem-branch (k .one) x in
+    let s = branch-of (k .one) x in
     let a : treeAt w (left w (left w v)) ≡ fork leaf t = cc (s .tree) in
-    let l = fork-branches (s .branch) a in
-    let m = fork-branches (k .two) y in
+    let l = branches-of (s .branch) a in
+    let m = branches-of (k .two) y in
     let z : treeAt w (left w (right w v)) ≡ stem f = cc (m .tree) in
-    let n = stem-branch (m .one) z in
+    let n = branch-of (m .one) z in
     record {
       rule-before = omega (arith, n .branch-before, m .one-before, k .two-before);
       label-before = omega (arith, l .two-before, s .branch-before, k .one-before);

@@ -10,6 +10,7 @@ use lib.ListN.{length, getD}
 use Rattle.table.specs.Ascending.{NumbersAscend}
 use Rattle.table.specs.Ascending.NumbersAscend.{no-more, one-more}
 use Rattle.table.proofs.Lists.{at-place}
+use Rattle.table.proofs.Ascending.{at-least, from-first}
 use Rattle.table.proofs.Words.{told-apart}
 use Rattle.loads.specs.Loads.{those, pick}
 
@@ -57,8 +58,7 @@ module _ (test : ℕ → Bool) where
   those-ascend {m} (one-more {c = c} {cs = cs} h a) = go (test c) (those-ascend a)
     where
       below : {ds : List ℕ} → NumbersAscend (c + 1) ds → NumbersAscend m ds
-      below no-more = no-more
-      below (one-more {c = d} k b) = one-more (let e : m ≤ d = omega arith in e) b
+      below b = from-first b (λ x i. let k : m ≤ x = omega (arith, at-least b x i) in k)
 
       go : (z : Bool) → NumbersAscend (c + 1) (those test cs) → NumbersAscend m (cond z (c ∷ those test cs) (those test cs))
       go true b = one-more h b

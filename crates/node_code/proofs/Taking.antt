@@ -1,10 +1,9 @@
 -- What the text of a tree comes to, by its branches, and the value's bound. Assumes nothing.
-use Prim.Native.Nat.{ℕ, _+_, _*_, _^_, _≤_, _<_}
+use Prim.Native.Nat.{ℕ, _+_, _*_, _≤_, _<_}
 use mathlib.Core.Path.{_≡_, refl, sym, ap, subst, _∙_}
 use mathlib.Core.Bool.{Bool, true, false, cond}
 use mathlib.Core.List.{_++_}
 use native.Mathlib.Omega.{arith}
-use native.Mathlib.Nat.{pow-suc}
 use native.Mathlib.Numerals.{add-one}
 use lib.ListN.{length}
 use lib.Dec.{leb}
@@ -14,17 +13,18 @@ use Rattle.table.proofs.Making.{size-pos}
 use Rattle.table.proofs.Words.{zero-one}
 use Rattle.ternary.specs.Text.{text}
 use Rattle.ternary.proofs.OneText.{length-text}
-use Rattle.short_codes.specs.Values.{valueAfter, valueFrom}
-use Rattle.short_codes.proofs.Numerals.{text-digits, value-append, power-few, value-below}
+use Rattle.short_codes.specs.Values.{valueAfter, valueFrom, padded}
+use Rattle.short_codes.proofs.Numerals.{text-digits, value-append, padded-ten, digit-below, value-below}
 use Rattle.node_code.specs.Code.{takenText}
-use Rattle.node_code.specs.declared.Taken.the-variants.{Digits, Long}
+use Rattle.node_code.specs.declared.Valued.the-variants.{Short, Long}
 
 -- a value of at most ten digits is below 59,049
-pub value-few : (v many : ℕ) → v < 3 ^ many → many ≤ 10 → v < 59049
-value-few v many h k = omega (arith, power-few many k)
+pub value-few : (v many : ℕ) → v < padded many 1 → many ≤ 10 → v < 59049
+value-few v many h k = omega (arith, padded-ten many k)
 
-pub digit-fits : (v many b : ℕ) → v < 3 ^ many → b ≤ 2 → v * 3 + b < 3 ^ (many + 1)
-digit-fits v many b h k = rw (add-one many) (omega (arith, pow-suc 3 many))
+pub digit-fits : (v many b : ℕ) → v < padded many 1 → b ≤ 2 → v * 3 + b < padded (many + 1) 1
+unfolding padded
+digit-fits v many b h k = rw (add-one many) (digit-below many v 1 b h k)
 
 -- one law for each way that the text of a tree is taken
 module _ (many v : ℕ) where
@@ -34,11 +34,11 @@ module _ (many v : ℕ) where
     pub many-is : m ≡ many + size t
     pub value-is : x ≡ valueFrom v (text t)
 
-  pub takes-all : (t : Tree) {m x : ℕ} → takenText many v t ≡ Digits m x → TakesAll t m x
+  pub takes-all : (t : Tree) {m x : ℕ} → takenText many v t ≡ Short m x → TakesAll t m x
   unfolding takenText
   takes-all t {m} {x} = go (leb (many + size t) 10) refl
     where
-      go : (z : Bool) → leb (many + size t) 10 ≡ z → cond z (Digits (many + size t) (valueFrom v (text t))) Long ≡ Digits m x → TakesAll t m x
+      go : (z : Bool) → leb (many + size t) 10 ≡ z → cond z (Short (many + size t) (valueFrom v (text t))) Long ≡ Short m x → TakesAll t m x
       go true p e =
           let a : many + size t ≡ m = cc in
           let b : valueFrom v (text t) ≡ x = cc in
@@ -49,7 +49,7 @@ module _ (many v : ℕ) where
   unfolding takenText
   takes-too-many t = go (leb (many + size t) 10) refl
     where
-      go : (z : Bool) → leb (many + size t) 10 ≡ z → cond z (Digits (many + size t) (valueFrom v (text t))) Long ≡ Long → 10 < many + size t
+      go : (z : Bool) → leb (many + size t) 10 ≡ z → cond z (Short (many + size t) (valueFrom v (text t))) Long ≡ Long → 10 < many + size t
       go true p e = zero-one (cc)
       go false p e = leb-false (many + size t) 10 p
 
@@ -60,13 +60,13 @@ module _ (many v : ℕ) where
   pub full-taken : (t : Tree) → many ≡ 10 → Long ≡ takenText many v t
   full-taken t e = long-taken t (omega (arith, size-pos t))
 
-  pub leaf-taken : {t : Tree} → t ≡ leaf → many ≤ 10 → (many ≡ 10 → ⊥) → Digits (many + 1) (v * 3) ≡ takenText many v t
+  pub leaf-taken : {t : Tree} → t ≡ leaf → many ≤ 10 → (many ≡ 10 → ⊥) → Short (many + 1) (v * 3) ≡ takenText many v t
   unfolding takenText size text valueFrom valueAfter
-  leaf-taken e h n = rw (e, le-leb (many + 1) 10 (omega arith)) (ap (Digits (many + 1)) (let q : v * 3 ≡ v * 3 + 0 = omega arith in q))
+  leaf-taken e h n = rw (e, le-leb (many + 1) 10 (omega arith)) (ap (Short (many + 1)) (let q : v * 3 ≡ v * 3 + 0 = omega arith in q))
 
   pub stem-taken : {t p : Tree} → t ≡ stem p → takenText (many + 1) (v * 3 + 1) p ≡ takenText many v t
   unfolding takenText size text valueFrom valueAfter
-  stem-taken {t} {p} e = rw e (ap (λ (n : ℕ). cond (leb n 10) (Digits n (valueFrom (v * 3 + 1) (text p))) Long) (let q : many + 1 + size p ≡ many + (size p + 1) = omega arith in q))
+  stem-taken {t} {p} e = rw e (ap (λ (n : ℕ). cond (leb n 10) (Short n (valueFrom (v * 3 + 1) (text p))) Long) (let q : many + 1 + size p ≡ many + (size p + 1) = omega arith in q))
 
 -- a fork's first branch is taken before its second
 module _ (many v : ℕ) {t p q : Tree} (e : t ≡ fork p q) where
@@ -74,7 +74,7 @@ module _ (many v : ℕ) {t p q : Tree} (e : t ≡ fork p q) where
   unfolding size
   fork-long h = rw e (long-taken many v (fork p q) (omega (arith, takes-too-many (many + 1) (v * 3 + 2) p h)))
 
-  pub fork-taken : {m x : ℕ} → takenText (many + 1) (v * 3 + 2) p ≡ Digits m x → takenText m x q ≡ takenText many v t
+  pub fork-taken : {m x : ℕ} → takenText (many + 1) (v * 3 + 2) p ≡ Short m x → takenText m x q ≡ takenText many v t
   unfolding takenText size text valueFrom valueAfter
   fork-taken {m} {x} h =
       let a = takes-all (many + 1) (v * 3 + 2) p h in
@@ -82,9 +82,9 @@ module _ (many v : ℕ) {t p q : Tree} (e : t ≡ fork p q) where
       let y : valueFrom x (text q) ≡ valueFrom (v * 3 + 2) (text p ++ text q) = ap (λ (k : ℕ). valueFrom k (text q)) (a .value-is) ∙ sym (value-append (v * 3 + 2) (text p) (text q)) in
       rw (e, n, y)
 
--- the digits taken have a value below the power of 3
-pub taken-fits : (many v : ℕ) (t : Tree) {m x : ℕ} → v < 3 ^ many → takenText many v t ≡ Digits m x → x < 3 ^ m
+-- the digits taken have a value below 1 with so many digits 0 after it
+pub taken-fits : (many v : ℕ) (t : Tree) {m x : ℕ} → v < padded many 1 → takenText many v t ≡ Short m x → x < padded m 1
 taken-fits many v t {m} {x} h e =
     let a = takes-all many v t e in
     let n : many + length (text t) ≡ m = omega (arith, a .many-is, length-text t) in
-    subst (λ (k : ℕ). x < 3 ^ k) n (rw (a .value-is) (value-below (text t) v many h (text-digits t)))
+    subst (λ (k : ℕ). x < padded k 1) n (rw (a .value-is) (value-below (text t) v many h (text-digits t)))

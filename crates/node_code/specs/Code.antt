@@ -5,9 +5,9 @@ use lib.Dec.{leb}
 use Rattle.calculus.specs.Tree.{Tree, size}
 use Rattle.ternary.specs.Text.{text}
 use Rattle.short_codes.specs.Values.{valueFrom}
-use Rattle.node_code.specs.declared.Taken.{Taken}
-use Rattle.node_code.specs.declared.Taken.the-variants.{Digits, Long}
+use Rattle.node_code.specs.declared.Valued.{Valued}
+use Rattle.node_code.specs.declared.Valued.the-variants.{Short, Long}
 
--- what the text of a tree comes to after `many` digits of the value v: ten digits with their value at most
-unfoldable pub takenText : ℕ → ℕ → Tree → Taken
-takenText many v t = cond (leb (many + size t) 10) (Digits (many + size t) (valueFrom v (text t))) Long
+-- what the text of a tree comes to after `many` digits of the value v: the digits in all and their value, or more than ten
+unfoldable pub takenText : ℕ → ℕ → Tree → Valued
+takenText many v t = cond (leb (many + size t) 10) (Short (many + size t) (valueFrom v (text t))) Long

@@ -2,19 +2,19 @@
 use Prim.Native.Nat.{ℕ, suc, _+_, _≤_, _<_}
 use mathlib.Core.Path.{_≡_, refl, ap, _∙_}
 use mathlib.Core.Bool.{Bool, true, false}
-use mathlib.Core.List.{List, [], _∷_, _++_, append-assoc, append-nil}
+use mathlib.Core.List.{List, _∷_, _++_, append-assoc, append-nil}
 use native.Mathlib.Omega.{arith}
-use native.Mathlib.Numerals.{add-one}
-use lib.ListN.{length, getD, take, drop, set, replicate, replicate-append-replicate, length-append, length-replicate}
+use lib.ListN.{length, getD, take, drop, set, replicate, replicate-append-replicate, length-replicate}
 use lib.Seq.{take-suc-set}
 use lib.Dec.{ltb}
 use borrow.Author.Tests.{ltb-true, ltb-false}
+use Rattle.table.specs.Wrote.{Wrote}
 use Rattle.grammar.specs.Tokens.{Token, is-closing, is-stop, is-bang}
 use Rattle.grammar.specs.Reader.{Unclosed, unclosed, parse, Starts}
 use Rattle.grammar.specs.Words.{token, tokens}
 use Rattle.grammar.proofs.Enough.{NotBang, parse-any, parse-bang, more-end, more-closing, more-stop, more-bang}
 use Rattle.grammar.proofs.Places.{tokens-at, tokens-end, sign-at, by-token}
-use Rattle.operators.specs.Code.{Wrote, JointAt, notedBy, Bangs}
+use Rattle.operators.specs.Code.{JointAt, notedBy, Bangs}
 use Rattle.operators.specs.declared.Joint.the-variants as joint
 
 not-bang : (w : ℕ) (r : List Token) → (w ≡ 33 → ⊥) → NotBang (token w ∷ r)
@@ -93,15 +93,3 @@ put-none l w s = let e : w + 0 ≡ w = omega arith in rw (e, append-nil)
 
 pub put-done : (l m : List ℕ) (w n i s : ℕ) → i ≡ n → w + n ≤ length l → take (w + i) m ≡ take w l ++ replicate i s → Wrote l w (replicate n s) (w + n) m
 put-done l m w n i s e h f = record { ends = omega (arith, length-replicate n s); inside = h; front = rw e at f }
-
--- one symbol
-pub wrote-one : (l : List ℕ) (w s : ℕ) → w < length l → Wrote l w (s ∷ []) (w + 1) (set l w s)
-wrote-one l w s h = record { ends = omega arith; inside = omega arith; front = rw (add-one, take-suc-set l w s h) }
-
--- then others
-pub wrote-then : (a b c xs ys : List ℕ) (w e f : ℕ) → length b ≡ length a → Wrote a w xs e b → Wrote b e ys f c → Wrote a w (xs ++ ys) f c
-wrote-then a b c xs ys w e f l h g = record {
-  ends = omega (arith, h .ends, g .ends, length-append xs ys);
-  inside = omega (arith, g .inside);
-  front = g .front ∙ ap (λ (x : List ℕ). x ++ ys) (h .front) ∙ append-assoc (take w a) xs ys;
-}

@@ -5,12 +5,13 @@ use mathlib.Core.List.{List, [], _∷_, _++_, append-assoc, append-nil}
 use mathlib.Core.Option.{Option, none, some}
 use native.Mathlib.Omega.{arith}
 use lib.ListN.{length, take, drop, replicate, length-append, length-replicate}
+use Rattle.table.specs.Wrote.{Wrote}
 use Rattle.grammar.specs.Expression.{Expression, not}
 use Rattle.grammar.specs.Reader.{Read, Unclosed, conjunct, disjunct, closed, afterAnd, afterOr, afterImplies, negated, conjoined, disjoined, implied, more}
 use Rattle.grammar.specs.Words.{tokens}
 use Rattle.grammar.specs.Postfix.{postfix}
 use Rattle.grammar.proofs.Enough.{more-operand, more-ampersand, more-bar, more-arrow}
-use Rattle.operators.specs.Code.{Wrote, applied, count, symbols, symbolsOf, flat, Counts, notedBy, Begun, JointAt, AfterAsks, Stepped}
+use Rattle.operators.specs.Code.{applied, count, symbols, symbolsOf, flat, Counts, notedBy, Begun, JointAt, AfterAsks, Stepped}
 use Rattle.operators.specs.declared.Joint.the-variants as joint
 use Rattle.operators.specs.declared.Waiting.{Waiting}
 use Rattle.operators.specs.declared.Step.the-variants as step

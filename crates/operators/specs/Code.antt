@@ -15,12 +15,6 @@ use Rattle.operators.specs.declared.Waiting.{Waiting}
 use Rattle.operators.specs.declared.Step.{Step}
 use Rattle.operators.specs.declared.Step.the-variants as step
 
--- xs are written from w up to end: what stands before end is what stood before w, and xs
-pub record Wrote (l : List ℕ) (w : ℕ) (xs : List ℕ) (end : ℕ) (m : List ℕ) : Type 0 where
-  pub ends : end ≡ w + length xs
-  pub inside : end ≤ length l
-  pub front : take end m ≡ take w l ++ xs
-
 -- what stands after an application
 abbrev pub JointAt : List ℕ → ℕ → Joint → Type 0
 JointAt ws at joint.Operand = Starts (tokens (drop at ws)) × (at < length ws)

@@ -6,7 +6,8 @@ ghost use Prim.Native.Nat.{ℕ, _+_, _≤_};
 ghost use lib.ListN.{length, replicate};
 ghost use Rattle.grammar.specs.Expression.{Expression};
 ghost use Rattle.grammar.specs.Reader.{Unclosed};
-ghost use Rattle.operators.specs.Code.{Wrote, JointAt, Bangs, Begun, AfterAsks, Afters};
+ghost use Rattle.table.specs.Wrote.{Wrote};
+ghost use Rattle.operators.specs.Code.{JointAt, Bangs, Begun, AfterAsks, Afters};
 
 // What stands after an application.
 pub enum Joint {

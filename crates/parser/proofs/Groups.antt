@@ -9,6 +9,8 @@ use lib.ListN.{length, getD, drop, set, replicate, length-drop, length-set}
 use lib.Seq.{drop-cons, drop-drop, getD-set-same, drop-set-lt}
 use lib.Dec.{ltb, eqb}
 use borrow.Author.Tests.{ltb-true, ltb-false, lt-ltb, le-ltb, eqb-true, eqb-false, eq-eqb, ne-eqb, not-true, not-false}
+use Rattle.table.specs.Wrote.{Wrote}
+use Rattle.table.proofs.Wrote.{wrote-then}
 use Rattle.grammar.specs.Expression.{Expression, abs}
 use Rattle.grammar.specs.Tokens.{Token, caret, name, opening, closing, backslash, stop, bang, ampersand, bar, arrow, is-opening, is-backslash, is-closing, is-stop}
 use Rattle.grammar.specs.Reader.{Read, nothing, read, empty, follow, abstracted, enclosed, body, binder, inside, operandBy, parse, operand}
@@ -16,8 +18,6 @@ use Rattle.grammar.specs.Words.{token, tokens}
 use Rattle.grammar.specs.Postfix.{postfix}
 use Rattle.grammar.proofs.Places.{tokens-at, tokens-end, tokens-length, sign-at, by-token}
 use Rattle.grammar.proofs.Abstractions.{parse-backslash, parse-abstraction}
-use Rattle.operators.specs.Code.{Wrote}
-use Rattle.operators.proofs.Joints.{wrote-then}
 use Rattle.operators.proofs.Waits.{put-end}
 use Rattle.parser.specs.Code.{IsName, IsBinder, abstractedBy, RowAsks, Row, Asks, Phrased, Tells, closeGroup, Room, Bodied}
 use Rattle.parser.specs.declared.Parsed.{Parsed}

@@ -15,7 +15,7 @@ use Rattle.grammar.specs.Words.{tokens}
 use Rattle.grammar.specs.Postfix.{postfix}
 use Rattle.grammar.proofs.Places.{tokens-at, sign-at}
 use Rattle.table.proofs.Words.{zero-one}
-use Rattle.operators.proofs.Joints.{wrote-one}
+use Rattle.table.proofs.Wrote.{wrote-one}
 use Rattle.parser.specs.Code.{placeOf, IsName, Asks, Tells}
 use Rattle.parser.specs.declared.Parsed.the-variants.{Phrase, Nothing}
 use Rattle.parser.specs.declared.Place.{Place}

@@ -6,12 +6,12 @@ use mathlib.Core.List.{List, _∷_}
 use mathlib.Core.Option.{Option, none, some}
 use lib.ListN.{length, getD, drop, replicate}
 use lib.Dec.{ltb, eqb}
+use Rattle.table.specs.Wrote.{Wrote}
 use Rattle.grammar.specs.Expression.{Expression}
 use Rattle.grammar.specs.Tokens.{Token, name}
 use Rattle.grammar.specs.Reader.{Read, nothing, read, empty, abstracted, binder, parse, operand}
 use Rattle.grammar.specs.Words.{token, tokens}
 use Rattle.grammar.specs.Postfix.{postfix}
-use Rattle.operators.specs.Code.{Wrote}
 use Rattle.parser.specs.declared.Parsed.{Parsed}
 use Rattle.parser.specs.declared.Parsed.the-variants.{Phrase, Nothing}
 use Rattle.parser.specs.declared.Place.{Place}

@@ -10,19 +10,13 @@ use lib.ListN.{length, getD}
 use lib.Dec.{eqb, ltb}
 use borrow.Author.Tests.{eqb-true, eqb-false, ltb-true, ltb-false}
 use Rattle.calculus.specs.Tree.{Tree, size}
-use Rattle.table.proofs.Lists.{at-place}
-use Rattle.table.proofs.Ascending.{place-below}
 use Rattle.table.proofs.Words.{zero-one}
 use Rattle.ternary.specs.Text.{text}
 use Rattle.short_codes.specs.Values.{value, values, numeral}
 use Rattle.short_codes.specs.ShortCodes.{placeFrom, codeOf}
-use Rattle.short_codes.specs.Claims.{IsCode}
+use Rattle.short_codes.specs.Claims.{AtPlace, IsCode}
 use Rattle.short_codes.proofs.Numerals.{text-numeral, value-unique}
-use Rattle.short_codes.proofs.Holding.{values-hold, one-table, values-many}
-
--- the number v is at place c of a list
-abbrev pub AtPlace : List ℕ → ℕ → ℕ → Type 0
-AtPlace l v c = (c < length l) × (getD l c 0 ≡ v)
+use Rattle.short_codes.proofs.Holding.{values-many, values-hold, one-table, each-place}
 
 found-from : (l : List ℕ) (i v c : ℕ) → placeFrom i v l ≡ some c → (i ≤ c) × AtPlace l v (c - i)
 unfolding placeFrom
@@ -52,21 +46,12 @@ not-found (x ∷ l) i v e m = go (eqb x v) refl e (List·Memᴰ·cases-cons m) (
     go false p e (inl q) f = eqb-false x v p (sym q)
     go false p e (inr m) f = f e m
 
--- two places of one number in the table are one
-pub one-place : (v c d : ℕ) → AtPlace values v c → AtPlace values v d → c ≡ d
-one-place v c d a b = go (ltb c d) (ltb d c) refl refl
-  where
-    go : (x y : Bool) → ltb c d ≡ x → ltb d c ≡ y → c ≡ d
-    go true y p q = absurd (omega (arith, place-below (values-hold .ascending) c d (ltb-true c d p) (b .0), a .1, b .1))
-    go false true p q = absurd (omega (arith, place-below (values-hold .ascending) d c (ltb-true d c q) (a .0), a .1, b .1))
-    go false false p q = omega (arith, ltb-false c d p, ltb-false d c q)
-
 -- a code is a place of the table that the definitions compute, since there is no other
 pub code-place : {t : Tree} {c : ℕ} → IsCode t c → AtPlace values (value (text t)) c
-code-place {t} {c} i = subst (λ (l : List ℕ). AtPlace l (value (text t)) c) (one-table (i .list) (i .holds)) (i .inside, i .there)
+code-place {t} {c} i = subst (λ (l : List ℕ). AtPlace l (value (text t)) c) (one-table (i .list) (i .holds)) (i .there)
 
 pub place-code : {t : Tree} {c : ℕ} → AtPlace values (value (text t)) c → IsCode t c
-place-code a = record { list = values; holds = values-hold; inside = a .0; there = a .1 }
+place-code a = record { list = values; holds = values-hold; there = a }
 
 -- every code is below 1,374,
 pub code-below : {t : Tree} {c : ℕ} → IsCode t c → c < 1374
@@ -76,7 +61,7 @@ code-below i = omega (arith, code-place i .0, values-many)
 pub every-code : (c : ℕ) → c < 1374 → (t : Tree) × IsCode t c
 every-code c h =
     let k : c < length values = omega (arith, values-many) in
-    let (t, s, e) = values-hold .exactly (getD values c 0) .0 (at-place values c 0 k) in
+    let (t, s, e) = each-place values values-hold .of-tree c k in
     (t, place-code (k, e))
 
 -- Two trees with one code are equal,
@@ -85,7 +70,7 @@ code-tree {t} {u} i j = value-unique t u (sym (code-place i .1) ∙ code-place j
 
 -- and a tree has one code at most.
 pub one-code : {t : Tree} {c d : ℕ} → IsCode t c → IsCode t d → c ≡ d
-one-code {t} {c} {d} i j = one-place (value (text t)) c d (code-place i) (code-place j)
+one-code {t} {c} {d} i j = each-place values values-hold .one (value (text t)) c d (code-place i) (code-place j)
 
 -- the text of a tree's code is its text
 pub code-numeral : {t : Tree} {c : ℕ} → IsCode t c → numeral (getD values c 0) ≡ text t
@@ -99,27 +84,23 @@ module _ (t : Tree) where
   few : {c : ℕ} → IsCode t c → size t ≤ 10
   few {c} i =
       let a = code-place i in
-      let (u, s, e) = values-hold .exactly (getD values c 0) .0 (at-place values c 0 (a .0)) in
+      let (u, s, e) = each-place values values-hold .of-tree c (a .0) in
       subst (λ (x : Tree). size x ≤ 10) (sym (value-unique t u (sym (a .1) ∙ e))) s
 
-  listed : size t ≤ 10 → codeOf t ≡ none → ⊥
+  never-none : size t ≤ 10 → codeOf t ≡ none → ⊥
   unfolding codeOf
-  listed h e = not-found values 0 (value (text t)) e (values-hold .exactly (value (text t)) .1 (t, h, refl))
+  never-none h e = not-found values 0 (value (text t)) e (values-hold .exactly (value (text t)) .1 (t, h, refl))
 
   -- A tree has a code exactly if it has at most ten nodes.
   pub has-code : ((c : ℕ) × IsCode t c) ↔ (size t ≤ 10)
-  has-code = (λ (i : (c : ℕ) × IsCode t c). few (i .1), λ h. go h (codeOf t) refl)
-    where
-      go : size t ≤ 10 → (o : Option ℕ) → codeOf t ≡ o → (c : ℕ) × IsCode t c
-      go h none e = absurd (listed h e)
-      go h (some c) e = (c, some-code e)
+  has-code = (λ (i : (c : ℕ) × IsCode t c). few (i .1), λ h. let y = each-place values values-hold .of-each t h in (y .0, place-code (y .1)))
 
   -- the definition gives the code,
   pub code-of-exactly : (c : ℕ) → (codeOf t ≡ some c) ↔ IsCode t c
   code-of-exactly c = (some-code, λ i. go i (codeOf t) refl)
     where
       go : IsCode t c → (o : Option ℕ) → codeOf t ≡ o → o ≡ some c
-      go i none e = absurd (listed (few i) e)
+      go i none e = absurd (never-none (few i) e)
       go i (some d) e = ap some (one-code (some-code e) i)
 
   -- and none for a tree of more than ten nodes
@@ -128,7 +109,7 @@ module _ (t : Tree) where
     where
       long : codeOf t ≡ none → (z : Bool) → ltb 10 (size t) ≡ z → 10 < size t
       long e true p = ltb-true 10 (size t) p
-      long e false p = absurd (listed (ltb-false 10 (size t) p) e)
+      long e false p = absurd (never-none (ltb-false 10 (size t) p) e)
 
       short : 10 < size t → (o : Option ℕ) → codeOf t ≡ o → o ≡ none
       short h none e = refl

@@ -15,7 +15,8 @@ use Rattle.table.proofs.Ascending.{append-ascends}
 use Rattle.table.proofs.Words.{zero-one}
 use Rattle.ternary.specs.Wanted.{wantedAfter, wantedFrom}
 use Rattle.ternary.proofs.Wanted.{none-wanted}
-use Rattle.short_codes.specs.Values.{valueAfter, valueFrom, valuesFrom}
+use Rattle.short_codes.specs.Values.{valueAfter, valueFrom, valuesFrom, padded}
+use Rattle.short_codes.proofs.Numerals.{padded-up}
 
 -- x is the value, after v, of n digits that use up w trees wanted
 abbrev pub ValueOf : ℕ → ℕ → ℕ → ℕ → Type 0
@@ -46,9 +47,9 @@ in-block n w v x (after-stem j) = Memᴰ·append-right (valuesFrom n w (valueAft
 in-block n w v x (after-fork j) = Memᴰ·append-right (valuesFrom n w (valueAfter v 48)) (Memᴰ·append-right (valuesFrom n (suc w) (valueAfter v 49)) j)
 
 -- one digit more before the others
-digit-more : (c w v : ℕ) {n w′ x : ℕ} → wantedAfter c (some w) ≡ some w′ → ValueOf n w′ (valueAfter v c) x → ValueOf (suc n) w v x
+digit-before : (c w v : ℕ) {n w′ x : ℕ} → wantedAfter c (some w) ≡ some w′ → ValueOf n w′ (valueAfter v c) x → ValueOf (suc n) w v x
 unfolding wantedFrom valueFrom
-digit-more c w v e (l, k, u, p) = (c ∷ l, omega arith, rw e u, p)
+digit-before c w v e (l, k, u, p) = (c ∷ l, omega arith, rw e u, p)
 
 pub listed-value : (n w v x : ℕ) → List·Memᴰ x (valuesFrom n w v) → ValueOf n w v x
 unfolding valuesFrom wantedFrom valueFrom wantedAfter
@@ -58,9 +59,9 @@ listed-value (suc n) zero v x i = absurd (List·Memᴰ·not-nil i)
 listed-value (suc n) (suc w) v x i = go (block n w v x i) (λ (w′ v′ : ℕ). listed-value n w′ v′ x)
   where
     go : Block n w v x → ((w′ v′ : ℕ) → List·Memᴰ x (valuesFrom n w′ v′) → ValueOf n w′ v′ x) → ValueOf (suc n) (suc w) v x
-    go (after-leaf j) f = digit-more 48 (suc w) v refl (f w (valueAfter v 48) j)
-    go (after-stem j) f = digit-more 49 (suc w) v refl (f (suc w) (valueAfter v 49) j)
-    go (after-fork j) f = digit-more 50 (suc w) v refl (f (suc (suc w)) (valueAfter v 50) j)
+    go (after-leaf j) f = digit-before 48 (suc w) v refl (f w (valueAfter v 48) j)
+    go (after-stem j) f = digit-before 49 (suc w) v refl (f (suc w) (valueAfter v 49) j)
+    go (after-fork j) f = digit-before 50 (suc w) v refl (f (suc (suc w)) (valueAfter v 50) j)
 
 pub value-listed : (n w v x : ℕ) → ValueOf n w v x → List·Memᴰ x (valuesFrom n w v)
 unfolding valuesFrom wantedFrom valueFrom wantedAfter
@@ -81,24 +82,14 @@ value-listed (suc n) (suc w) v x (c ∷ l, k, u, p) = go (eqb c 48) (eqb c 49) (
     go false false true q r s y f = in-block n w v x (after-fork (placed 50 (suc (suc w)) (eqb-true c 50 s) (f (suc (suc w)) y)))
     go false false false q r s y f = zero-one (cc (none-wanted l))
 
--- v with n digits 0 after it: the least that n digits more can come to
-unfoldable pub padded : ℕ → ℕ → ℕ
-padded zero v = v
-padded (suc n) v = padded n (v * 3)
-
-padded-up : (n v u : ℕ) → v ≤ u → padded n v ≤ padded n u
-unfolding padded
-padded-up zero v u h = h
-padded-up (suc n) v u h = padded-up n (v * 3) (u * 3) (omega arith)
-
 -- what is listed after v lies from v to the next number, each with digits 0 after it
 record Between (n v x : ℕ) : Type 0 where
   from : padded n v ≤ x
   to : x < padded n (v + 1)
 
-after-digit : (n v c x : ℕ) → c ≤ 50 → Between n (valueAfter v c) x → Between (suc n) v x
+between-after : (n v c x : ℕ) → c ≤ 50 → Between n (valueAfter v c) x → Between (suc n) v x
 unfolding padded valueAfter
-after-digit n v c x h b =
+between-after n v c x h b =
     record {
       from = omega (arith, padded-up n (v * 3) (valueAfter v c) (omega arith), b .from);
       to = omega (arith, padded-up n (valueAfter v c + 1) ((v + 1) * 3) (omega arith), b .to);
@@ -112,9 +103,9 @@ between (suc n) zero v x i = absurd (List·Memᴰ·not-nil i)
 between (suc n) (suc w) v x i = go (block n w v x i) (λ (w′ v′ : ℕ). between n w′ v′ x)
   where
     go : Block n w v x → ((w′ v′ : ℕ) → List·Memᴰ x (valuesFrom n w′ v′) → Between n v′ x) → Between (suc n) v x
-    go (after-leaf j) f = after-digit n v 48 x (omega arith) (f w (valueAfter v 48) j)
-    go (after-stem j) f = after-digit n v 49 x (omega arith) (f (suc w) (valueAfter v 49) j)
-    go (after-fork j) f = after-digit n v 50 x (omega arith) (f (suc (suc w)) (valueAfter v 50) j)
+    go (after-leaf j) f = between-after n v 48 x (omega arith) (f w (valueAfter v 48) j)
+    go (after-stem j) f = between-after n v 49 x (omega arith) (f (suc w) (valueAfter v 49) j)
+    go (after-fork j) f = between-after n v 50 x (omega arith) (f (suc (suc w)) (valueAfter v 50) j)
 
 -- so what is listed after a smaller number is smaller
 below : (n w w′ v u x y : ℕ) → v < u → List·Memᴰ x (valuesFrom n w v) → List·Memᴰ y (valuesFrom n w′ u) → x < y
@@ -154,7 +145,3 @@ longer-from n x i = go (block (suc n) 0 0 x i)
 
 pub shorter-to : (n x : ℕ) → List·Memᴰ x (valuesFrom n 1 0) → x < padded n 1
 shorter-to n x i = between n 1 0 x i .to
-
-pub padded-more : (n x : ℕ) → x < padded n 1 → x < padded (suc n) 1
-unfolding padded
-padded-more n x h = omega (arith, padded-up n 1 3 (omega arith))

@@ -1,17 +1,16 @@
 -- The digits of a text's value are the text, so that a value is one tree's. Assumes nothing.
-use Prim.Native.Nat.{ℕ, zero, suc, _+_, _-_, _*_, _/_, _%_, _^_, _≤_, _<_}
+use Prim.Native.Nat.{ℕ, zero, suc, _+_, _-_, _*_, _/_, _%_, _≤_, _<_}
 use mathlib.Core.Path.{_≡_, refl, sym, ap, ap₂, subst, _∙_}
 use mathlib.Core.Bool.{Bool, true, false, cond}
 use mathlib.Core.List.{List, [], _∷_, _++_, append-nil, append-assoc}
 use native.Mathlib.Omega.{arith}
-use native.Mathlib.Nat.{pow-suc}
 use lib.ListN.{length}
 use lib.Dec.{ltb}
 use borrow.Author.Tests.{ltb-false, lt-ltb, le-ltb}
 use Rattle.calculus.specs.Tree.{Tree, leaf, stem, fork}
 use Rattle.ternary.specs.Text.{text}
 use Rattle.ternary.proofs.OneText.{text-unique}
-use Rattle.short_codes.specs.Values.{valueAfter, valueFrom, value, numeralTo, numeral}
+use Rattle.short_codes.specs.Values.{valueAfter, valueFrom, value, padded, numeralTo, numeral}
 
 -- any bound above the number is enough
 enough : (k m v : ℕ) → v < k → v < m → numeralTo k v ≡ numeralTo m v
@@ -99,22 +98,39 @@ unfolding valueFrom
 value-append v [] r = refl
 value-append v (c ∷ l) r = value-append (valueAfter v c) l r
 
--- fewer digits have a smaller power of 3; that of ten is 59,049
-power-more : (m k n : ℕ) → m + k ≡ n → 3 ^ m ≤ 3 ^ n
-power-more m zero n e = subst (λ (j : ℕ). 3 ^ m ≤ 3 ^ j) (let q : m ≡ n = omega arith in q) (omega arith)
-power-more m (suc k) zero e = absurd (omega arith)
-power-more m (suc k) (suc n) e = omega (arith, power-more m k n (omega arith), pow-suc 3 n)
+-- a number with digits 0 after it is no smaller, and with more of them or after a greater number greater
+pub padded-up : (n v u : ℕ) → v ≤ u → padded n v ≤ padded n u
+unfolding padded
+padded-up zero v u h = h
+padded-up (suc n) v u h = padded-up n (v * 3) (u * 3) (omega arith)
 
-pub power-few : (m : ℕ) → m ≤ 10 → 3 ^ m ≤ 59049
-power-few m h = power-more m (10 - m) 10 (omega arith)
+pub padded-least : (n v : ℕ) → v ≤ padded n v
+unfolding padded
+padded-least zero v = omega arith
+padded-least (suc n) v = omega (arith, padded-least n (v * 3))
 
--- k digits have a value below the power of 3
-pub digit-below : (v c k : ℕ) → v < 3 ^ k → c ≤ 50 → valueAfter v c < 3 ^ suc k
-unfolding valueAfter
-digit-below v c k h b = omega (arith, pow-suc 3 k)
+pub padded-more : (n : ℕ) → padded n 1 ≤ padded (suc n) 1
+unfolding padded
+padded-more n = padded-up n 1 3 (omega arith)
 
-pub value-below : (l : List ℕ) (v k : ℕ) → v < 3 ^ k → AllDigits l → valueFrom v l < 3 ^ (k + length l)
-unfolding valueFrom
-value-below [] v k h d = subst (λ (n : ℕ). v < 3 ^ n) (let e : k ≡ k + 0 = omega arith in e) h
+padded-longer : (m k n : ℕ) → m + k ≡ n → padded m 1 ≤ padded n 1
+padded-longer m zero n e = subst (λ (j : ℕ). padded m 1 ≤ padded j 1) (let q : m ≡ n = omega arith in q) (omega arith)
+padded-longer m (suc k) zero e = absurd (omega arith)
+padded-longer m (suc k) (suc n) e = omega (arith, padded-longer m k n (omega arith), padded-more n)
+
+pub padded-ten : (m : ℕ) → m ≤ 10 → padded m 1 ≤ 59049
+unfolding padded
+padded-ten m h = padded-longer m (10 - m) 10 (omega arith)
+
+-- k digits have a value below 1 with k digits 0 after it
+pub digit-below : (k v u b : ℕ) → v < padded k u → b ≤ 2 → v * 3 + b < padded k (u * 3)
+unfolding padded
+digit-below zero v u b h l = omega arith
+digit-below (suc k) v u b h l = digit-below k v (u * 3) b h l
+
+pub value-below : (l : List ℕ) (v k : ℕ) → v < padded k 1 → AllDigits l → valueFrom v l < padded (k + length l) 1
+unfolding valueFrom valueAfter padded
+value-below [] v k h d = subst (λ (n : ℕ). v < padded n 1) (let e : k ≡ k + 0 = omega arith in e) h
 value-below (c ∷ l) v k h d =
-    subst (λ (n : ℕ). valueFrom (valueAfter v c) l < 3 ^ n) (let e : suc k + length l ≡ k + suc (length l) = omega arith in e) (value-below l (valueAfter v c) (suc k) (digit-below v c k h (d .1)) (d .2))
+    subst (λ (n : ℕ). valueFrom (valueAfter v c) l < padded n 1) (let e : suc k + length l ≡ k + suc (length l) = omega arith in e)
+    (value-below l (valueAfter v c) (suc k) (digit-below k v 1 (c - 48) h (omega (arith, d .1))) (d .2))

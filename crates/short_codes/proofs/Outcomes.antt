@@ -1,14 +1,14 @@
 -- The answers of the two operations, each exactly on its condition. Assumes nothing.
 use Prim.Native.Nat.{ℕ, _≤_, _<_}
-use mathlib.Core.Path.{_≡_, refl, sym, subst, _∙_}
+use mathlib.Core.Path.{_≡_, refl, sym, ap, subst, _∙_}
 use mathlib.Core.Bool.{Bool, true, false, cond}
 use mathlib.Core.List.{List, [], _++_}
 use mathlib.Core.Logic.{_↔_}
 use mathlib.Core.Option.{Option, none, some}
 use native.Mathlib.Omega.{arith}
-use lib.ListN.{length, drop}
+use lib.ListN.{length, getD, drop}
 use lib.Dec.{leb, ltb}
-use borrow.Author.Tests.{lt-ltb, le-ltb, ltb-true, ltb-false, le-leb, lt-leb, leb-true, leb-false}
+use borrow.Author.Tests.{lt-ltb, le-ltb, ltb-true, ltb-false, leb-true, leb-false}
 use Rattle.calculus.specs.Tree.{Tree}
 use Rattle.table.specs.Nodes.{treeAt}
 use Rattle.table.specs.Outcome.{Outcome, wholeOut, intoOut, atEntry, unless}
@@ -19,8 +19,10 @@ use Rattle.table.specs.declared.Given.{Given}
 use Rattle.table.specs.declared.Given.the-variants.{Number, Nothing, Refused}
 use Rattle.table.proofs.Entry.{entry-lacks, lacks-entry}
 use Rattle.table.proofs.Words.{zero-one}
+use Rattle.table.proofs.Wrote.{into-short, into-written}
 use Rattle.ternary.specs.Text.{text}
 use Rattle.ternary.proofs.OneText.{length-text}
+use Rattle.short_codes.specs.Values.{values, numeral}
 use Rattle.short_codes.specs.ShortCodes.{codeOf, code, codeText}
 use Rattle.short_codes.specs.Claims.{IsCode, Coded, CodeTexts}
 use Rattle.short_codes.specs.Claims.Coded.{at-entry, not-in-use, too-many, coded}
@@ -50,22 +52,23 @@ module _ (w : List ℕ) (u v : ℕ) where
   code-exactly a = (λ e. subst (Coded w u v) e code-case, code-gives)
 
 module _ (c : ℕ) (out : List ℕ) where
-  pub text-none : 1374 ≤ c → codeText c out ≡ wholeOut Nothing [] [] out
+  pub no-code-text : 1374 ≤ c → codeText c out ≡ wholeOut Nothing [] [] out
   unfolding codeText
-  text-none h = rw (le-ltb c 1374 h)
+  no-code-text h = rw (le-ltb c 1374 h)
 
-  -- the same operation by the tree whose code it is
-  text-of : {t : Tree} → IsCode t c → codeText c out ≡ intoOut Number Refused (text t) out
+  pub code-into : c < 1374 → codeText c out ≡ intoOut Number Refused (numeral (getD values c 0)) out
   unfolding codeText
-  text-of i = rw (lt-ltb c 1374 (code-below i), code-numeral i)
+  code-into h = rw (lt-ltb c 1374 h)
+
+  -- the same by the tree whose code it is
+  text-of : {t : Tree} → IsCode t c → codeText c out ≡ intoOut Number Refused (text t) out
+  text-of i = code-into (code-below i) ∙ ap (λ (l : List ℕ). intoOut Number Refused l out) (code-numeral i)
 
   text-short : {t : Tree} → IsCode t c → length out < length (text t) → codeText c out ≡ wholeOut (Refused Out) [] [] out
-  unfolding intoOut
-  text-short {t} i h = text-of i ∙ rw (lt-leb (length (text t)) (length out) h)
+  text-short {t} i h = text-of i ∙ into-short Number Refused (text t) out h
 
   text-written : {t : Tree} → IsCode t c → length (text t) ≤ length out → codeText c out ≡ wholeOut (Number (length (text t))) [] [] (text t ++ drop (length (text t)) out)
-  unfolding intoOut
-  text-written {t} i h = text-of i ∙ rw (le-leb (length (text t)) (length out) h)
+  text-written {t} i h = text-of i ∙ into-written Number Refused (text t) out h
 
   text-case : CodeTexts c out (codeText c out)
   text-case = go (ltb c 1374) refl
@@ -76,14 +79,14 @@ module _ (c : ℕ) (out : List ℕ) where
 
       go : (z : Bool) → ltb c 1374 ≡ z → CodeTexts c out (codeText c out)
       go true p = let x = every-code c (ltb-true c 1374 p) in room (x .1) (leb (length (text (x .0))) (length out)) refl
-      go false p = let h = ltb-false c 1374 p in no-code h (text-none h)
+      go false p = let h = ltb-false c 1374 p in no-code h (no-code-text h)
 
   -- "a code's text, or none from 1,374 on, then 10 if out is shorter" ([12])
   pub code-text-exactly : (o : Outcome Given) → (codeText c out ≡ o) ↔ CodeTexts c out o
   code-text-exactly o = (λ e. subst (CodeTexts c out) e text-case, only)
     where
       only : CodeTexts c out o → codeText c out ≡ o
-      only (no-code h e) = text-none h ∙ sym e
+      only (no-code h e) = no-code-text h ∙ sym e
       only (no-room i k e) = text-short i k ∙ sym e
       only (written i k e) = text-written i k ∙ sym e
 

@@ -12,10 +12,10 @@ use Rattle.short_codes.specs.Values.{valueAfter, valueFrom, value, value
 use Rattle.short_codes.specs.ShortCodes.{placeFrom, codeOf, codeText}
 
 -- the values of 0, 10, 110, 200, 222200000, 1111111110 and 2222100000
-pub first-values : map value (text leaf ∷ text (stem leaf) ∷ text (stem (stem leaf)) ∷ text (fork leaf leaf) ∷ (50 ∷ 50 ∷ 50 ∷ 50 ∷ replicate 5 48) ∷ (replicate 9 49 ++ (48 ∷ []))
+pub some-values : map value (text leaf ∷ text (stem leaf) ∷ text (stem (stem leaf)) ∷ text (fork leaf leaf) ∷ (50 ∷ 50 ∷ 50 ∷ 50 ∷ replicate 5 48) ∷ (replicate 9 49 ++ (48 ∷ []))
     ∷ (50 ∷ 50 ∷ 50 ∷ 50 ∷ 49 ∷ replicate 5 48) ∷ []) ≡ 0 ∷ 3 ∷ 12 ∷ 18 ∷ 19440 ∷ 29523 ∷ 58563 ∷ []
 unfolding value valueFrom valueAfter text
-first-values = refl
+some-values = refl
 
 -- the trees of one to four nodes: 0, 10, 110, 200, 1110, 1200, 2010, 2100
 pub first-codes : map codeOf (leaf ∷ stem leaf ∷ stem (stem leaf) ∷ fork leaf leaf ∷ stem (stem (stem leaf)) ∷ stem (fork leaf leaf) ∷ fork leaf (stem leaf) ∷ fork (stem leaf) leaf ∷ [])

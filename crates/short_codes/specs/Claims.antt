@@ -1,6 +1,6 @@
 -- What is claimed of values and codes, without the definitions that compute them but for the value of a text ([12]). Assumes nothing: these are
 -- definitions.
-use Prim.Native.Nat.{ℕ, _≤_, _<_}
+use Prim.Native.Nat.{ℕ, _+_, _≤_, _<_}
 use mathlib.Core.Path.{_≡_}
 use mathlib.Core.Bool.{true}
 use mathlib.Core.List.{List, [], _++_, List·Memᴰ}
@@ -19,17 +19,28 @@ use Rattle.table.specs.declared.Given.the-variants.{Number, Nothing, Refused}
 use Rattle.ternary.specs.Text.{text}
 use Rattle.short_codes.specs.Values.{value}
 
--- "A table holds the values of all trees of at most ten nodes, ascending" ([12]): the list l does, and holds nothing else
+-- "A table holds the values of all trees of at most ten nodes, ascending, 1,374 of them" ([12]): the list l does, and holds nothing else
 pub record HoldsValues (l : List ℕ) : Type 0 where
   pub exactly : (x : ℕ) → List·Memᴰ x l ↔ ((t : Tree) × (size t ≤ 10) × (x ≡ value (text t)))
   pub ascending : NumbersAscend 0 l
+  pub many : length l ≡ 1374
 
--- "a tree's code is its place there, counting from 0" ([12]): c is the code of t. A code is the paper's term.
+-- the number x stands at place i of a list, counting from 0
+abbrev pub AtPlace : List ℕ → ℕ → ℕ → Type 0
+AtPlace l x i = (i < length l) × (getD l i 0 ≡ x)
+
+-- The same of each place of the list: each is that of a tree of at most ten nodes, every such tree has exactly one, and each number is below the next.
+pub record EachPlace (l : List ℕ) : Type 0 where
+  pub of-tree : (i : ℕ) → i < length l → (t : Tree) × (size t ≤ 10) × (getD l i 0 ≡ value (text t))
+  pub of-each : (t : Tree) → size t ≤ 10 → (i : ℕ) × AtPlace l (value (text t)) i
+  pub one : (x i j : ℕ) → AtPlace l x i → AtPlace l x j → i ≡ j
+  pub next : (i : ℕ) → i + 1 < length l → getD l i 0 < getD l (i + 1) 0
+
+-- "a tree's code is its place there, counting from 0" ([12]): c is the code of t, which is the paper's term
 pub record IsCode (t : Tree) (c : ℕ) : Type 0 where
   pub list : List ℕ
   pub holds : HoldsValues list
-  pub inside : c < length list
-  pub there : getD list c 0 ≡ value (text t)
+  pub there : AtPlace list (value (text t)) c
 
 -- where a node is asked for its code: 1, 2 and 3 are passed
 pub record Askable (w : List ℕ) (u v : ℕ) : Type 0 where

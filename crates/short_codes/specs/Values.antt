@@ -1,8 +1,8 @@
--- Values ([12]): of a text, and of all trees of at most ten nodes; and the digits of a value. Assumes nothing: these are definitions.
+-- Values ([12]): of a text, and of all trees of at most ten nodes, and whether a list is the table of these; and the digits of a value. Assumes nothing: these are definitions.
 use Prim.Native.Nat.{ℕ, zero, suc, _+_, _-_, _*_, _/_, _%_}
-use mathlib.Core.Bool.{cond}
+use mathlib.Core.Bool.{Bool, true, false, cond, _&&_}
 use mathlib.Core.List.{List, [], _∷_, _++_}
-use lib.Dec.{ltb}
+use lib.Dec.{ltb, eqb}
 
 -- a base-3 number with one digit more
 unfoldable pub valueAfter : ℕ → ℕ → ℕ
@@ -33,6 +33,22 @@ valuesTo (suc n) = valuesTo n ++ valuesFrom (suc n) 1 0
 -- `one-table` that no other is.
 unfoldable pub values : List ℕ
 values = valuesTo 10
+
+-- "The rule is shown over the table as a whole." ([12]): the test over the whole of a list, whether it is the table number by number. The theorems
+-- `tested-values`, `tested-holds` and `tested-entry` say what follows of it.
+unfoldable pub eachSame : List ℕ → List ℕ → Bool
+eachSame [] [] = true
+eachSame [] (y ∷ m) = false
+eachSame (x ∷ l) [] = false
+eachSame (x ∷ l) (y ∷ m) = eqb x y && eachSame l m
+
+unfoldable pub isValues : List ℕ → Bool
+isValues l = eachSame l values
+
+-- the number v with n digits 0 after it in base 3, the least that n digits more can come to
+unfoldable pub padded : ℕ → ℕ → ℕ
+padded zero v = v
+padded (suc n) v = padded n (v * 3)
 
 -- The digits of a number in base 3; 0 has one. The first argument bounds the recursion.
 unfoldable pub numeralTo : ℕ → ℕ → List ℕ

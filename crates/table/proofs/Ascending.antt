@@ -1,16 +1,19 @@
 -- Laws of numbers that ascend: members, two lists one after another, places. Assumes nothing.
 use Prim.Native.Nat.{ℕ, zero, suc, _+_, _≤_, _<_}
-use mathlib.Core.Path.{_≡_, refl, sym}
+use mathlib.Core.Path.{_≡_, refl, sym, ap}
+use mathlib.Core.Bool.{Bool, true, false}
 use mathlib.Core.List.{List, _++_, List·Memᴰ, List·Memᴰ·head, List·Memᴰ·tail, List·Memᴰ·not-nil, List·Memᴰ·cases-cons}
 use mathlib.Core.Logic.{_⊎_, inl, inr}
 use native.Mathlib.Omega.{arith}
 use lib.ListN.{length, getD}
+use lib.Dec.{ltb, eqb}
+use borrow.Author.Tests.{ltb-true, ltb-false, eqb-true, eqb-false}
 use Rattle.table.specs.Ascending.{NumbersAscend}
 use Rattle.table.specs.Ascending.NumbersAscend.{no-more, one-more}
 use Rattle.table.proofs.Lists.{at-place}
 
 -- a member of a list that ascends from m on is at least m
-at-least : {m : ℕ} {cs : List ℕ} → NumbersAscend m cs → (c : ℕ) → List·Memᴰ c cs → m ≤ c
+pub at-least : {m : ℕ} {cs : List ℕ} → NumbersAscend m cs → (c : ℕ) → List·Memᴰ c cs → m ≤ c
 at-least no-more c i = absurd (List·Memᴰ·not-nil i)
 at-least {m} (one-more {c = d} {cs = ds} h a) c i = go (at-least a c) (List·Memᴰ·cases-cons i)
   where
@@ -39,7 +42,7 @@ one-list (one-more {c = c} {cs = cs} h a) (one-more {c = d} {cs = ds} k b) f g =
     rest y a h x i (inr j) = j
 
 -- only the first number tells from where on a list ascends
-from-first : {m k : ℕ} {cs : List ℕ} → NumbersAscend m cs → ((x : ℕ) → List·Memᴰ x cs → k ≤ x) → NumbersAscend k cs
+pub from-first : {m k : ℕ} {cs : List ℕ} → NumbersAscend m cs → ((x : ℕ) → List·Memᴰ x cs → k ≤ x) → NumbersAscend k cs
 from-first no-more f = no-more
 from-first (one-more {c = c} h a) f = one-more (f c (List·Memᴰ·head refl)) a
 
@@ -55,3 +58,20 @@ place-below no-more i j h k = absurd (omega arith)
 place-below (one-more {c = c} {cs = cs} q a) i zero h k = absurd (omega arith)
 place-below (one-more {c = c} {cs = cs} q a) zero (suc j) h k = omega (arith, at-least a (getD cs j 0) (at-place cs j 0 (omega arith)))
 place-below (one-more {c = c} {cs = cs} q a) (suc i) (suc j) h k = place-below a i j (omega arith) (omega arith)
+
+-- so a smaller number stands at an earlier place, and an equal one at the same
+pub earlier-place : {m : ℕ} {cs : List ℕ} → NumbersAscend m cs → (i j : ℕ) → i < length cs → getD cs i 0 < getD cs j 0 → i < j
+earlier-place {m} {cs} a i j h e = go (ltb i j) (eqb i j) refl refl
+  where
+    go : (x y : Bool) → ltb i j ≡ x → eqb i j ≡ y → i < j
+    go true y p q = ltb-true i j p
+    go false true p q = absurd (omega (arith, ap (λ (k : ℕ). getD cs k 0) (eqb-true i j q)))
+    go false false p q = absurd (omega (arith, place-below a j i (omega (arith, ltb-false i j p, eqb-false i j q)) h))
+
+pub same-place : {m : ℕ} {cs : List ℕ} → NumbersAscend m cs → (i j : ℕ) → i < length cs → j < length cs → getD cs i 0 ≡ getD cs j 0 → i ≡ j
+same-place {m} {cs} a i j h k e = go (ltb i j) (ltb j i) refl refl
+  where
+    go : (x y : Bool) → ltb i j ≡ x → ltb j i ≡ y → i ≡ j
+    go true y p q = absurd (omega (arith, place-below a i j (ltb-true i j p) k))
+    go false true p q = absurd (omega (arith, place-below a j i (ltb-true j i q) h))
+    go false false p q = omega (arith, ltb-false i j p, ltb-false j i q)

@@ -46,16 +46,16 @@ module _ {w : List ℕ} {v : ℕ} (i : InUse w v) where
       }
 
   -- the branches of a node by its tree
-  pub stem-branch : {x : Tree} → treeAt w v ≡ stem x → IsStem w v (left w v)
-  stem-branch {x} e = go (first w v) refl (second w v) refl
+  pub branch-of : {x : Tree} → treeAt w v ≡ stem x → IsStem w v (left w v)
+  branch-of {x} e = go (first w v) refl (second w v) refl
     where
       go : (a : ℕ) → a ≡ first w v → (b : ℕ) → b ≡ second w v → IsStem w v (left w v)
       go zero p b q = zero-one (cc (leaf-by p refl))
       go (suc a) p zero q = let h = stem-by p q (λ z. omega arith) refl in subst (IsStem w v) (h .branch-is) h
       go (suc a) p (suc b) q = zero-one (cc (fork-by p q (λ z. omega arith) (λ z. omega arith) .tree))
 
-  pub fork-branches : {x y : Tree} → treeAt w v ≡ fork x y → IsFork w v (left w v) (right w v)
-  fork-branches {x} {y} e = go (first w v) refl (second w v) refl
+  pub branches-of : {x y : Tree} → treeAt w v ≡ fork x y → IsFork w v (left w v) (right w v)
+  branches-of {x} {y} e = go (first w v) refl (second w v) refl
     where
       go : (a : ℕ) → a ≡ first w v → (b : ℕ) → b ≡ second w v → IsFork w v (left w v) (right w v)
       go zero p b q = zero-one (cc (leaf-by p refl))

@@ -1,6 +1,7 @@
 -- The laws of tables; other crates cite them.
 pub mod Lists
 pub mod Ascending
+pub mod Wrote
 pub mod Words
 pub mod Trees
 pub mod Branches

@@ -1,7 +1,8 @@
 -- Laws of places in a list. Assumes nothing.
 use Prim.Native.Nat.{ℕ, zero, suc, _+_, _<_}
 use mathlib.Core.Path.{_≡_, refl, sym, ap, _∙_}
-use mathlib.Core.List.{List, [], _∷_, List·Memᴰ, List·Memᴰ·head, List·Memᴰ·tail}
+use mathlib.Core.List.{List, [], _∷_, List·Memᴰ, List·Memᴰ·head, List·Memᴰ·tail, List·Memᴰ·not-nil, List·Memᴰ·cases-cons}
+use mathlib.Core.Logic.{_⊎_, inl, inr}
 use native.Mathlib.Omega.{arith}
 use native.Mathlib.Numerals.{add-one}
 use lib.ListN.{length, getD, drop}
@@ -17,6 +18,15 @@ module _ {A : Type 0} where
   any-default [] i x y h = absurd (omega arith)
   any-default (a ∷ l) zero x y h = refl
   any-default (a ∷ l) (suc i) x y h = any-default l i x y (omega arith)
+
+  -- a member of a list has a place in it
+  pub member-place : (x : A) (l : List A) (z : A) → List·Memᴰ x l → (i : ℕ) × (i < length l) × (getD l i z ≡ x)
+  member-place x [] z m = absurd (List·Memᴰ·not-nil m)
+  member-place x (a ∷ l) z m = go (List·Memᴰ·cases-cons m) (member-place x l z)
+    where
+      go : (x ≡ a) ⊎ List·Memᴰ x l → (List·Memᴰ x l → (i : ℕ) × (i < length l) × (getD l i z ≡ x)) → (i : ℕ) × (i < length (a ∷ l)) × (getD (a ∷ l) i z ≡ x)
+      go (inl e) f = (0, omega arith, sym e)
+      go (inr j) f = let y = f j in (suc (y .0), omega (arith, y .1), y .2)
 
   -- what is read within a list's length is a member of it
   pub at-place : (l : List A) (i : ℕ) (z : A) → i < length l → List·Memᴰ (getD l i z) l

@@ -11,6 +11,10 @@
 //!
 //! `bench --loads`
 //!
+//! Or measures what codes cost, and prints that alone:
+//!
+//! `bench --codes`
+//!
 //! Or measures what making each tree once costs: Apply beside the C loop, how the time of a step grows with
 //! the nodes, nodes that meet in one place of the index, and, if it is given, another build:
 //!
@@ -18,6 +22,7 @@
 
 mod beside;
 mod c;
+mod codes;
 mod evaluator;
 mod growing;
 mod loads;
@@ -537,6 +542,7 @@ fn bench() {
             return beside::beside(archive.as_ref());
         }
         Some("--loads") => return loads::loads(),
+        Some("--codes") => return codes::codes(),
         Some("--sharing") => return sharing(archive),
         _ => {}
     }
@@ -544,6 +550,7 @@ fn bench() {
     texts_and_rules();
     rule_text::rule_text();
     loads::loads();
+    codes::codes();
     packets();
     let lines = growth();
     print_growth(&lines);

@@ -1,6 +1,6 @@
 //! `code` and `code_text` beside the model ([12]): every code and many outside, with out bytes of each length up to
-//! more than enough; nodes of trees of ten nodes, of eleven, of fewer and of more, also of trees whose text is too
-//! long for any memory, in tables that are sound and in tables that are refused.
+//! more than enough; nodes of trees of ten nodes, of eleven, of fewer and of more, also of trees whose text has
+//! more than 2^20 digits, up to more than any memory holds, in tables that are sound and in tables that are refused.
 
 use crate::out_bytes::{different, OutBytes};
 use crate::random::Random;
@@ -110,7 +110,7 @@ fn text_met(answer: Given) -> TextMet {
 
 // ---- codes of nodes
 
-/// How many digits the text of a node's tree has: fewer than ten, ten, eleven, more, or more than can be written.
+/// How many digits the text of a node's tree has: fewer than ten, ten, eleven, more, or more than 2^20.
 #[derive(Clone, Copy, Debug, PartialEq, Eq)]
 pub enum Size {
     Fewer,

@@ -1998,7 +1998,7 @@ fn codes_refused() {
 #[test]
 fn codes_of_trees_that_are_long() {
     let doubled = |nodes: u32| (0..nodes).flat_map(|n| [n, n]).collect::<Vec<u32>>();
-    for nodes in [4, 5, 9, 17, 32, 33, 64, 65, 100, 1_000, 65_536 - 12] {
+    for nodes in [4, 5, 9, 17, 32, 33, 64, 65, 100, 1_000, 65_536 - 11] {
         let mut table = doubled(nodes);
         for code in [(0, 0), (1, 3), (2, 81)] {
             assert_eq!(ask(CODE, &table, nodes as usize, code.0), given(code.1));

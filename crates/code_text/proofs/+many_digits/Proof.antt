@@ -1,6 +1,6 @@
 -- `code_text::many_digits` meets its contract: one digit, or those of a third and one more. Assumes nothing.
 use native.Mathlib.Omega.{arith}
-use Rattle.code_text.proofs.Ways.{one-digit, digit-more}
+use Rattle.code_text.proofs.Ways.{single-digit, more-digits}
 use Prim.Native.Nat.{ℕ, _<_}
 use borrow.Fn.Kinds.{In}
 use borrow.Fn.PlainCycle.{Measures, is, falls, and}
@@ -25,7 +25,7 @@ many-digits-returns : (t : ℕ) → many-digits-lts.Need-returns (
   many-digits-below t,
   many-digits.Post,
 ) (many-digits-at t) many-digits.Post
-many-digits-returns t c = one-digit _ (c .if1 .taken)
+many-digits-returns t c = single-digit _ (c .if1 .taken)
 
 many-digits-many-digits-requires : (t : ℕ) → many-digits-lts.Need-many-digits-requires (
   many-digits-below t,
@@ -43,7 +43,7 @@ many-digits-returns-2 : (t : ℕ) → many-digits-lts.Need-returns-2 (
   many-digits-below t,
   many-digits.Post,
 ) (many-digits-at t) many-digits.Post
-many-digits-returns-2 t c = digit-more _ _ (c .before .if1 .left) (c .many-digits .ensures)
+many-digits-returns-2 t c = more-digits _ _ (c .before .if1 .left) (c .many-digits .ensures)
 
 pub +many-digits-spec : {M : Type 1} → statement M
 +many-digits-spec = close μ-many-digits λ t. many-digits-lts.spec (

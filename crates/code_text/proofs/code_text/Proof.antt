@@ -1,13 +1,13 @@
 -- `code_text::code_text` meets its contract, one law for each way that it ends. Assumes nothing.
 use mathlib.Core.Path.{sym}
-use Rattle.short_codes.proofs.Outcomes.{text-none}
+use Rattle.short_codes.proofs.Outcomes.{no-code-text}
 use Rattle.code_text.proofs.Ways.{short-out, text-out}
 use borrow.Author.Needs.{needs}
 use Rattle.code_text.proofs.code_text.Statement.{statement}
 use Rattle.code_text.proofs.code_text.Tie as tie
 
 returns : tie.Need-returns
-returns c = sym (text-none _ _ (c .if1 .taken))
+returns c = sym (no-code-text _ _ (c .if1 .taken))
 
 value-at-requires : tie.Need-value-at-requires
 value-at-requires c κs = search needs

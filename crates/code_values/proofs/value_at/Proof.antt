@@ -1,14 +1,15 @@
--- `code_values::value_at` meets its contract: a test over the whole of the constant says that it is the table, and so each of its entries is the table's.
--- Assumes nothing.
-use mathlib.Core.Path.{refl}
-use Rattle.short_codes.specs.Values.{valueAfter, valuesFrom, valuesTo, values}
-use Rattle.short_codes.proofs.Holding.{eachSame, isValues, tested-entry}
+-- `code_values::value_at` meets its contract: the array that holds the values is the table. Assumes nothing.
+use Prim.Native.Nat.{ℕ}
+use mathlib.Core.Path.{ap}
+use mathlib.Core.List.{List}
+use lib.ListN.{getD}
+use Rattle.short_codes.proofs.Holding.{one-table}
 use borrow.Author.Needs.{needs}
-use borrow.Table.Row
 use Rattle.code_values.proofs.value_at.Statement.{statement}
 use Rattle.code_values.proofs.value_at.Tie as tie
-use Rattle.code_values.proofs.value_at.Reads as reads
-use Rattle.code_values.proofs.value_at.Lts as lts
+
+all-values-requires : tie.Need-all-values-requires
+all-values-requires c κs = search needs
 
 mul-result : tie.Need-mul-result
 mul-result c = search needs
@@ -17,8 +18,7 @@ array-read-result : tie.Need-array-read-result
 array-read-result c = search needs
 
 returns : tie.Need-returns
-unfolding isValues eachSame values valuesTo valuesFrom valueAfter
-returns c = tested-entry (Row.get 2 (lts.T2 .locals) (lts.m1 reads.Pre reads.Post (c .args) (c .blocks))) refl (c .args .place)
+returns c = ap (λ (l : List ℕ). getD l (c .before .args .place) 0) (one-table _ (c .all-values .ensures))
 
 pub value-at-spec : {M : Type 1} → statement M
-value-at-spec = tie.close (tie.spec mul-result array-read-result returns)
+value-at-spec = tie.close (tie.spec all-values-requires mul-result array-read-result returns)

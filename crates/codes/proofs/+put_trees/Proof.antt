@@ -77,7 +77,7 @@ put-trees-returns-2 t c =
     let a = b .before .before .before .before in
     let e = a .before .before in
     let s = e .before .before in
-    trees-put _ (s .args .out .now) (e .if1 .left) (s .pre .1 .0) (s .pre .1 .1) (a .put-trees .ensures) (b .put-values .ensures)
+    trees-put _ (s .args .out .now) (e .if1 .left) (s .pre .1 .0) (s .pre .1 .1) (a .put-trees .ensures) (a .put-trees .kept .1 .0) (b .put-values .ensures)
 
 pub +put-trees-spec : {M : Type 1} → statement M
 +put-trees-spec = close μ-put-trees λ t. put-trees-lts.spec (

@@ -179,7 +179,7 @@ put-values-returns-4 t c =
     let a = b .before .before .before .before in
     let e = a .before .before in
     let s = e .before .before .before in
-    all-put (s .pre .1) (e .before .if1 .left) (e .if3 .left) (a .put-values .ensures) (a .put-values .kept .1 .1 .1 .0) (b .put-values2 .ensures) (d .put-values3 .ensures)
+    all-put (s .pre .1) (e .before .if1 .left) (e .if3 .left) (a .put-values .ensures) (a .put-values .kept .1 .1 .1 .0) (b .put-values2 .ensures) (b .put-values2 .kept .1 .1 .1 .0) (d .put-values3 .ensures)
 
 pub +put-values-spec : {M : Type 1} → statement M
 +put-values-spec = close μ-put-values λ t. put-values-lts.spec (

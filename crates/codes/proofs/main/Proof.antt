@@ -1,4 +1,4 @@
--- `codes::main` does what it does without a fault: there are as many values as there is room for. Assumes nothing.
+-- `codes::main` reads inside its array: there are as many values as places, and what is printed is the table's. Assumes nothing.
 use Prim.Native.Nat.{_-_, _<_}
 use native.Mathlib.Omega.{arith}
 use Rattle.codes.proofs.Putting.{all-many, printed-small}
@@ -20,7 +20,7 @@ abbrev μ-loop : tie.MeasureT-loop
 -- a place that is printed is one of the table's
 inside : (c : lts.In-loop (put-trees-reads.Asked, put-trees-reads.Learnt, print-decimal-reads.Asked, print-decimal-reads.Learnt, write-all-reads.Asked, write-all-reads.Learnt) reads.Pre reads.Post Inv-loop μ-loop)
     → c .before .loop .i < 1374
-inside c = omega (arith, c .loop-test .taken, c .before .before .before .put-trees .ensures .next, all-many)
+inside c = omega (arith, c .loop-test .taken, c .before .before .before .put-trees .ensures .ends, all-many)
 
 slice-aggregate-put-trees : tie.Need-slice-aggregate-put-trees Inv-loop μ-loop
 slice-aggregate-put-trees c = search needs

@@ -6,7 +6,7 @@ use Rattle.table.specs.Branches.{IsStem, IsFork}
 use Rattle.table.proofs.Branches.{leaf-by, stem-by, fork-by}
 use Rattle.node_code.proofs.Taking.{value-few, digit-fits, takes-all, full-taken, leaf-taken, stem-taken, fork-long, fork-taken, taken-fits}
 use Rattle.node_code.specs.Code.{takenText}
-use Rattle.node_code.specs.declared.Taken.the-variants.{Digits}
+use Rattle.node_code.specs.declared.Valued.the-variants.{Short}
 use borrow.Author.Needs.{needs}
 use Prim.Native.Nat.{ℕ, _+_, _-_, _*_, _<_}
 use borrow.Fn.Kinds.{In}
@@ -55,7 +55,7 @@ is-fork t c =
 first-taken : (t : ℕ) (c : take-text-lts.After-known-told (word-reads.Asked, word-reads.Learnt, take-text-below t, take-text.Post) (take-text-at t) take-text.Post)
     → let f = c .before .before .before .before in
     let s = f .before .before .before .before .before .before in
-    takenText (s .args .many + 1) (s .args .value * 3 + 2) (treeAt (s .args .table .now) (f .before .before .before .word .result - 1)) ≡ Digits (c .before .first .given .0 .0) (c .before .first .given .0 .1 .0)
+    takenText (s .args .many + 1) (s .args .value * 3 + 2) (treeAt (s .args .table .now) (f .before .before .before .word .result - 1)) ≡ Short (c .before .first .given .0 .0) (c .before .first .given .0 .1 .0)
 first-taken t c = sym (c .before .before .before .take-text2 .ensures) ∙ c .before .first .given .1
 
 take-text-returns : (t : ℕ) → take-text-lts.Need-returns (

@@ -8,6 +8,7 @@ use Rattle.table.specs.Outcome.{atEntry}
 use Rattle.table.specs.declared.Given.the-variants.{Refused}
 use Rattle.table.proofs.Entry.{entered, check-refuses}
 use Rattle.short_codes.specs.ShortCodes as coding
+use Rattle.short_codes.proofs.Numerals.{padded-least}
 use Rattle.node_code.proofs.Ways.{no-node, long-none, short-coded}
 use borrow.Author.Needs.{needs}
 use Rattle.node_code.proofs.code.Statement.{statement}
@@ -39,13 +40,13 @@ returns-2 c = no-node _ _ _ (passed (c .before)) (c .if1 .taken)
 take-text-requires : tie.Need-take-text-requires
 take-text-requires c κs =
     let a = c .before .before .before .before .before .before .args in
-    (record { used = a .used; fine = entered true (a .table .now) (a .used) [] (passed (c .before)) .table; inside = c .if1 .left }, omega arith, omega arith)
+    (record { used = a .used; fine = entered true (a .table .now) (a .used) [] (passed (c .before)) .table; inside = c .if1 .left }, omega arith, padded-least 0 1)
 
 enum-known-taken : tie.Need-enum-known-taken
 enum-known-taken c = search needs
 
-place-of-requires : tie.Need-place-of-requires
-place-of-requires c κs = search needs
+place-at-most-requires : tie.Need-place-at-most-requires
+place-at-most-requires c κs = search needs
 
 enum-told-2 : tie.Need-enum-told-2
 enum-told-2 c = search needs
@@ -53,7 +54,7 @@ enum-told-2 c = search needs
 returns-3 : tie.Need-returns-3
 returns-3 c =
     let t = c .before .before .before .before in
-    short-coded _ _ _ (passed (t .before .before)) (t .before .if1 .left) (sym (t .take-text .ensures) ∙ c .before .before .taken .given .1) (c .place-of .ensures)
+    short-coded _ _ _ (passed (t .before .before)) (t .before .if1 .left) (sym (t .take-text .ensures) ∙ c .before .before .taken .given .1) (c .place-at-most .ensures)
 
 returns-4 : tie.Need-returns-4
 returns-4 c =
@@ -72,7 +73,7 @@ code-spec =
     returns-2
     take-text-requires
     enum-known-taken
-    place-of-requires
+    place-at-most-requires
     enum-told-2
     returns-3
     returns-4)

@@ -1,6 +1,6 @@
 -- `operators::close` meets its contract: one kind of operator after another. Assumes nothing.
 use native.Mathlib.Omega.{arith}
-use Rattle.operators.proofs.Joints.{wrote-then}
+use Rattle.table.proofs.Wrote.{wrote-then}
 use Rattle.operators.proofs.Waits.{put-end}
 use borrow.Author.Needs.{needs}
 use Rattle.operators.proofs.close.Statement.{statement}

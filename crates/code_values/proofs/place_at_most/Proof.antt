@@ -1,17 +1,13 @@
--- `code_values::place_of` meets its contract: a test over the whole of the constant says that it is the table, and the search keeps the place between two.
--- Assumes nothing.
+-- `code_values::place_at_most` meets its contract: the search keeps the place between two. Assumes nothing.
 use Prim.Native.Nat.{ℕ, _+_, _-_, _/_, _<_}
-use mathlib.Core.Path.{refl}
 use native.Mathlib.Omega.{arith}
-use Rattle.short_codes.specs.Values.{valueAfter, valuesFrom, valuesTo, values}
-use Rattle.short_codes.proofs.Holding.{eachSame, isValues}
 use Rattle.code_values.proofs.Search.{Searching, search-start, search-below, search-above, search-small, search-done}
-use borrow.Author.Needs.{fits-under}
-use borrow.Table.Row
-use Rattle.code_values.proofs.place_of.Statement.{statement}
-use Rattle.code_values.proofs.place_of.Tie as tie
-use Rattle.code_values.proofs.place_of.Reads as reads
-use Rattle.code_values.proofs.place_of.Lts as lts
+use borrow.Author.Needs.{needs, fits-under}
+use Rattle.code_values.proofs.place_at_most.Statement.{statement}
+use Rattle.code_values.proofs.place_at_most.Tie as tie
+use Rattle.code_values.proofs.place_at_most.Reads as reads
+use Rattle.code_values.proofs.place_at_most.Lts as lts
+use Rattle.code_values.proofs.all_values.Reads as all-values-reads
 
 abbrev Inv-loop : tie.InvT-loop
 Inv-loop value values low₀ high₀ low high = Searching value values low high
@@ -20,15 +16,17 @@ abbrev μ-loop : tie.MeasureT-loop
 μ-loop value values low₀ high₀ low high = high - low
 
 -- the middle, and that it lies between the two places
-abbrev half : lts.In-loop reads.Pre reads.Post Inv-loop μ-loop → ℕ
+abbrev half : lts.In-loop (all-values-reads.Asked, all-values-reads.Learnt) reads.Pre reads.Post Inv-loop μ-loop → ℕ
 half c = (c .before .loop .low + c .before .loop .high) / 2
 
-middle : (c : lts.In-loop reads.Pre reads.Post Inv-loop μ-loop) → (c .before .loop .low < half c) × (half c < c .before .loop .high)
+middle : (c : lts.In-loop (all-values-reads.Asked, all-values-reads.Learnt) reads.Pre reads.Post Inv-loop μ-loop) → (c .before .loop .low < half c) × (half c < c .before .loop .high)
 middle c = (omega (arith, c .loop-test .taken), omega (arith, c .loop-test .taken))
 
+all-values-requires : tie.Need-all-values-requires Inv-loop μ-loop
+all-values-requires c κs = search needs
+
 loop-holds : tie.Need-loop-holds Inv-loop μ-loop
-unfolding isValues eachSame values valuesTo valuesFrom valueAfter
-loop-holds c = search-start (c .args .value) (Row.get 6 (lts.T2 .locals) (lts.m1 reads.Pre reads.Post Inv-loop μ-loop (c .args) (c .blocks))) refl
+loop-holds c = search-start _ _ (c .all-values .ensures)
 
 add-loop : tie.Need-add-loop Inv-loop μ-loop
 add-loop c = omega (arith, c .loop .inv .ordered, c .loop .inv .within)
@@ -60,12 +58,13 @@ loop-again-2 c = search-above (c .before .before .loop .inv) (half (c .before)) 
 returns : tie.Need-returns Inv-loop μ-loop
 returns c = search-done (c .before .loop .inv) (c .loop-test .left)
 
-pub place-of-spec : {M : Type 1} → statement M
-place-of-spec =
+pub place-at-most-spec : {M : Type 1} → statement M
+place-at-most-spec =
     tie.close
     (tie.spec
     Inv-loop
     μ-loop
+    all-values-requires
     loop-holds
     add-loop
     add-middle
