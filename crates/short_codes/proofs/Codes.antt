@@ -48,10 +48,10 @@ not-found (x ∷ l) i v e m = go (eqb x v) refl e (List·Memᴰ·cases-cons m) (
 
 -- a code is a place of the table that the definitions compute, since there is no other
 pub code-place : {t : Tree} {c : ℕ} → IsCode t c → AtPlace values (value (text t)) c
-code-place {t} {c} i = subst (λ (l : List ℕ). AtPlace l (value (text t)) c) (one-table (i .list) (i .holds)) (i .there)
+code-place {t} {c} i = subst (λ (l : List ℕ). AtPlace l (value (text t)) c) (one-table (i .list) (i .holds)) (i .inside, i .there)
 
 pub place-code : {t : Tree} {c : ℕ} → AtPlace values (value (text t)) c → IsCode t c
-place-code a = record { list = values; holds = values-hold; there = a }
+place-code a = record { list = values; holds = values-hold; inside = a .0; there = a .1 }
 
 -- every code is below 1,374,
 pub code-below : {t : Tree} {c : ℕ} → IsCode t c → c < 1374

@@ -40,7 +40,8 @@ pub record EachPlace (l : List ℕ) : Type 0 where
 pub record IsCode (t : Tree) (c : ℕ) : Type 0 where
   pub list : List ℕ
   pub holds : HoldsValues list
-  pub there : AtPlace list (value (text t)) c
+  pub inside : c < length list
+  pub there : getD list c 0 ≡ value (text t)
 
 -- where a node is asked for its code: 1, 2 and 3 are passed
 pub record Askable (w : List ℕ) (u v : ℕ) : Type 0 where

@@ -304,22 +304,26 @@ impl Asked {
     }
 }
 
-/// Prints what a code adds to the checks, and how long the long text's call is beside that of ten digits.
+/// Prints how long the call for the long text is beside that for ten digits, and what a code adds to the checks of
+/// the smallest table. In larger ones that is less than what the checks' own time changes by.
 fn print_added(times: &[Times]) {
-    println!(
-        "\n| Nodes | Ten digits less `same`, ns, best | median | Long text less `same`, best | median \
-         | Long text to ten digits | Quartiles |"
-    );
-    println!("|---|---|---|---|---|---|---|");
+    println!("\n| Nodes | Long text to ten digits, times as long | Quartiles |");
+    println!("|---|---|---|");
     for (nodes, times) in NODES.iter().zip(times.chunks(SIDE_BY_SIDE)) {
-        let [same, ten, long] = times else {
-            unreachable!("three contenders for each table");
-        };
-        let added = [longer(ten, same), longer(long, same)];
-        let added: Vec<String> = added.iter().flatten().map(|n| format!("{n:.1}")).collect();
-        let [low, middle, high] = long.speed_of(ten);
-        let added = added.join(" | ");
-        println!("| {nodes} | {added} | {middle:.2} | {low:.2} to {high:.2} |");
+        let [low, middle, high] = times[2].speed_of(&times[1]);
+        println!("| {nodes} | {middle:.2} | {low:.2} to {high:.2} |");
+    }
+    let [same, ten, long, ..] = times else {
+        unreachable!("three contenders for each table");
+    };
+    println!("\n| At {} nodes, ns | Best | Median |", NODES[0]);
+    println!("|---|---|---|");
+    for (what, [best, median]) in [
+        ("`code`, ten digits, less `same`", longer(ten, same)),
+        ("`code`, long text, less `same`", longer(long, same)),
+        ("`code`, ten digits less long text", longer(ten, long)),
+    ] {
+        println!("| {what} | {best:.1} | {median:.1} |");
     }
 }
 
