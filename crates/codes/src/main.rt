@@ -40,6 +40,7 @@ fn put_trees(n: usize, out: &mut [u32]) -> usize
     put_values(n, 1, 0, out, at)
 }
 
+// Prints the values, one a line.
 fn main() {
     let mut values = [0u32; 1374];
     let many = put_trees(10, &mut values);

@@ -36,7 +36,7 @@ pub record EachPlace (l : List ℕ) : Type 0 where
   pub one : (x i j : ℕ) → AtPlace l x i → AtPlace l x j → i ≡ j
   pub next : (i : ℕ) → i + 1 < length l → getD l i 0 < getD l (i + 1) 0
 
--- "a tree's code is its place there, counting from 0" ([12]): c is the code of t, which is the paper's term
+-- "a tree's code is its place there, counting from 0" ([12]): c is the code of t. A code is the paper's term.
 pub record IsCode (t : Tree) (c : ℕ) : Type 0 where
   pub list : List ℕ
   pub holds : HoldsValues list

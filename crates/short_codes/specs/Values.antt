@@ -1,4 +1,5 @@
--- Values ([12]): of a text, and of all trees of at most ten nodes, and whether a list is the table of these; and the digits of a value. Assumes nothing: these are definitions.
+-- Values ([12]): of a text, and of all trees of at most ten nodes, and whether a list is the table of these; and the digits of a value. Assumes nothing:
+-- these are definitions.
 use Prim.Native.Nat.{ℕ, zero, suc, _+_, _-_, _*_, _/_, _%_}
 use mathlib.Core.Bool.{Bool, true, false, cond, _&&_}
 use mathlib.Core.List.{List, [], _∷_, _++_}
@@ -8,7 +9,7 @@ use lib.Dec.{ltb, eqb}
 unfoldable pub valueAfter : ℕ → ℕ → ℕ
 valueAfter v c = v * 3 + (c - 48)
 
--- "A text read as a base-3 number is its value" ([12]): read on after a beginning of the value v
+-- "A text read as a base-3 number is its value" ([12]), which is the paper's term: read on after a beginning of the value v
 unfoldable pub valueFrom : ℕ → List ℕ → ℕ
 valueFrom v [] = v
 valueFrom v (c ∷ l) = valueFrom (valueAfter v c) l
@@ -35,7 +36,7 @@ unfoldable pub values : List ℕ
 values = valuesTo 10
 
 -- "The rule is shown over the table as a whole." ([12]): the test over the whole of a list, whether it is the table number by number. The theorems
--- `tested-values`, `tested-holds` and `tested-entry` say what follows of it.
+-- `tested-values`, `tested-holds` and `tested-places` say what follows of it.
 unfoldable pub eachSame : List ℕ → List ℕ → Bool
 eachSame [] [] = true
 eachSame [] (y ∷ m) = false
