@@ -1,5 +1,7 @@
 // The numbers of the operations' answers, as the exported functions put them into the caller's array: five, or what the operation says. The answers of
 // Apply and Run, with their uses, are in the crate `counted`. specs/ says in which order they stand.
+#![tactic(auto)]
+
 ghost use Rattle.std.specs.Prelude.{◌≡◌};
 ghost use Rattle.table.specs.Refusal.{refused_numbers, made_numbers};
 ghost use Rattle.table.specs.Same.{same_numbers};

@@ -2,6 +2,8 @@
 //
 // The operation has an index of its own (crate `index`), in four sizes, so that a table pays for an index about as long as it needs. The longest are met after
 // the most tests: a compiler that takes a call behind many tests for a rare one gives its array a frame of its own, which the shorter tables then do not touch.
+#![tactic(auto)]
+
 ghost use Rattle.std.specs.Prelude.{◌≡◌, ◌≤◌, length, leb};
 ghost use Rattle.std.proofs.Math.Option.{none};
 ghost use Rattle.table.specs.Outcome.{whole, at_entry};

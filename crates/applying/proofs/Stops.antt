@@ -63,6 +63,9 @@ module _ (all : ℕ) (z : State) where
   unfolding use_rule grow grow_by
   node_lacks k Leaf of_leaf f h = rw (make_full z.table (z.argument + 1) 0 f h)
   node_lacks k (Stem p) of_stem f h = rw (make_full z.table (p + 1) (z.argument + 1) f h)
+  node_lacks k (Drop _) {a = a} {b = b} x4 f h = elim x4 [ ]
+  node_lacks k (Spread _ _) {a = a} {b = b} x6 f h = elim x6 [ ]
+  node_lacks k (Triage _ _) {a = a} {b = b} x7 f h = elim x7 [ ]
 
   frame_lacks : (k : Uses) (r : Rule) → needs_frame r ≡ true → all ≤ length z.frames → use_rule all z k r ≡ stop Frames z
   unfolding use_rule hold needs_frame

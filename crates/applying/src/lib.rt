@@ -1,10 +1,12 @@
 // The five rules on a table, one use at a time, and Apply as a definition, in specs/, and their theorems, in proofs/. Its code is in the crates
 // `wanted`, `frames`, `rules`, `machine` and `apply`.
+#![tactic(auto)]
+
 use calculus::Uses;
 use table::Refusal;
 
 // Which of the five rules applying a node takes, with the nodes that the rule names.
-#[derive(Drop)]
+#[derive(Clone, Copy)]
 pub enum Rule {
     Leaf,
     Stem(usize),
@@ -14,7 +16,7 @@ pub enum Rule {
 }
 
 // An application that waits for the outcome of another.
-#[derive(Drop)]
+#[derive(Clone, Copy)]
 pub enum Frame {
     // spread, while y is applied to N: p and N
     SpreadFirst(usize, usize),
@@ -25,7 +27,7 @@ pub enum Frame {
 }
 
 // How an application ends: as Apply answers, and for a stop with the steps taken before it and the rule that was wanted ([14]).
-#[derive(Drop)]
+#[derive(Clone, Copy)]
 pub enum Ended {
     Node {
         node: usize,
@@ -41,7 +43,7 @@ pub enum Ended {
 }
 
 // Apply's answer: the outcome's node, the new count of used nodes, the steps, and the uses of each rule.
-#[derive(Drop)]
+#[derive(Clone, Copy)]
 pub enum Applied {
     Node {
         node: usize,

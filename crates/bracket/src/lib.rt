@@ -3,6 +3,8 @@
 // A term without abstraction is a run of words in the lent stack: n leaves and variables take 2n − 1 words, and an application's word says how
 // long its function part is, so that nothing is scanned twice. An abstraction is written further up in the stack, where the whole run has room
 // a second time, and copied back over its body.
+#![tactic(auto)]
+
 ghost use Rattle.std.specs.Prelude.{◌≡◌, ◌+◌, ◌≤◌, [], ◌∷◌, length, take, drop};
 ghost use Rattle.std.proofs.lemmas.List.Edits.{sets};
 ghost use Rattle.calculus.specs.Term.{Term};
@@ -60,7 +62,7 @@ fn copy(stack: &mut [u32], p: usize, n: usize, q: usize)
 }
 
 // What building a term's words gives: the places after its bytes and after its words.
-#[derive(Drop)]
+#[derive(Clone, Copy)]
 pub struct Built {
     pub next: usize,
     pub end: usize,

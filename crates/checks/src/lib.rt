@@ -1,6 +1,8 @@
 // The checks in code: 1 and 2 at entry, 9 before a tree is laid out. The definitions and the laws that callers cite are in the crate `table`; specs/ says
 // what the code's own values mean in their terms.
 // The check for 2 fills an index of the table's nodes (crates `index` and `fill`).
+#![tactic(auto)]
+
 ghost use Rattle.std.specs.Prelude.{◌≡◌, ◌&&◌, ◌≤◌, length};
 ghost use Rattle.table.specs.Outcome.{fits, at_entry};
 ghost use Rattle.index.specs.Index.{Empty, Ready};
@@ -9,7 +11,7 @@ ghost use Rattle.checks.specs.Code.{refusal_of, checked_with, frames_for};
 use table::Refusal;
 
 // What a check says: nothing is refused, or the refusal.
-#[derive(Drop)]
+#[derive(Clone, Copy)]
 pub enum Checked {
     Passed,
     Refused(Refusal),

@@ -1,5 +1,7 @@
 // The text of a code ([12]): the digits of its value in base 3, counted and written, and the operation. The definitions and their theorems are in the crate
 // `short_codes`. Assumes nothing.
+#![tactic(auto)]
+
 ghost use Rattle.std.specs.Prelude.{◌≡◌, [], ◌++◌, ◌+◌, ◌≤◌, length, drop};
 ghost use Rattle.table.specs.Outcome.{whole_out};
 ghost use Rattle.short_codes.specs.Values.{numeral};

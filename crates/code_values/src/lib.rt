@@ -1,6 +1,8 @@
 // The table of values ([12]) as a constant, the value at a place of it, and the place of a value. The definition and its theorems are in the crate
 // `short_codes`; specs/ says what a place tells in their terms. The program `codes` makes the values anew, and the merge gate holds what it prints against
 // the constant. Assumes nothing.
+#![tactic(auto)]
+
 ghost use Rattle.std.specs.Prelude.{◌≡◌, ◌<◌, get_or};
 ghost use Rattle.short_codes.specs.Values.{values};
 ghost use Rattle.short_codes.specs.Claims.{HoldsValues};

@@ -1,5 +1,7 @@
 // The program: the values of all trees of at most ten nodes, made from the trees' texts digit by digit and printed in ascending order, one a line. It
 // does not read the constant of the crate `code_values`, which the merge gate holds against what it prints. Assumes what the kit assumes of printing.
+#![tactic(auto)]
+
 ghost use Rattle.std.specs.Prelude.{◌≤◌, length};
 ghost use Rattle.table.specs.Wrote.{Wrote};
 ghost use Rattle.short_codes.specs.Values.{values_from, values_to};

@@ -1,5 +1,7 @@
 // The ten numbers of the answers of Apply and Run, as the exported functions put them into the caller's array: the five, and the uses of leaf, stem,
 // drop, spread and triage. The definitions are in the crates `applying`, `running` and `answers`.
+#![tactic(auto)]
+
 ghost use Rattle.std.specs.Prelude.{◌≡◌};
 ghost use Rattle.calculus.specs.Uses.{no_uses};
 ghost use Rattle.table.specs.Refusal.{refused_numbers};

@@ -1,4 +1,6 @@
 // Counts of the five rules' uses in code: their sum, and the counts of two together. The definitions are in the crate `calculus`.
+#![tactic(auto)]
+
 ghost use Rattle.std.specs.Prelude.{◌≡◌, ◌+◌, ◌≤◌};
 ghost use Rattle.calculus.specs.Uses.{◌⊕◌, steps};
 

@@ -1,12 +1,14 @@
 // The bytes of the term of postfix symbols, written from their end. What the symbols mean is in the crate `grammar`; specs/ says what the functions ask
 // and give in its terms. Assumes nothing.
+#![tactic(auto)]
+
 ghost use Rattle.std.specs.Prelude.{ℕ, ◌≤◌, ◌<◌, List, length};
 ghost use Rattle.grammar.specs.Expression.{Expression};
 ghost use Rattle.grammar.specs.Postfix.{postfix, lead};
 ghost use Rattle.encoder.specs.Code.{Laid, EncodeAsks, EncodeAt, EncodeGives};
 
 // Where the symbols and the bytes of a written term begin.
-#[derive(Drop)]
+#[derive(Clone, Copy)]
 pub struct Begins {
     pub from: usize,
     pub at: usize,

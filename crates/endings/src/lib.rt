@@ -1,5 +1,7 @@
 // How a stage of a packet's reader ends: a refusal, which clears what was made since the entry, or the outcome's text. The definitions and their
 // theorems are in the crate `running`; specs/ says what the stages ask of lent memory, and the laws that callers cite are in proofs/.
+#![tactic(auto)]
+
 ghost use Rattle.std.specs.Prelude.{◌≡◌, List, ℕ, ◌*◌, ◌≤◌, ◌<◌, length};
 ghost use Rattle.calculus.specs.Uses.{steps};
 ghost use Rattle.table.specs.Outcome.{whole_out};

@@ -1,6 +1,8 @@
 // Runs the packet of document 01, its examples that are not starred, and those of request [2] of document 02, with the room that the program
 // lends, and prints for each the line that the program prints. The lines that it must print stand in `stdout`, beside src/, and are the papers'.
 // The starred lines are proved in specs/ and proofs/.
+#![tactic(auto)]
+
 ghost use Rattle.std.specs.Prelude.{◌≤◌};
 
 use libc::STDOUT_FILENO;

@@ -2,6 +2,8 @@
 // arguments, a pointer and a length. An answer is an array that the caller lends: five numbers, refusal, node, used, steps and digits; of Apply and Run
 // these and the uses of leaf, stem, drop, spread and triage; or what the operation says. The crates `answers`, `counted`, `stops`,
 // `generator`, `weight_numbers` and `refusals` make its numbers. The definitions are in specs/.
+#![tactic(auto)]
+
 ghost use Rattle.std.specs.Prelude.{◌≡◌, []};
 ghost use Rattle.table.specs.Refusal.{made_numbers, given_numbers};
 ghost use Rattle.table.specs.Outcome.{whole, whole_out, answered};

@@ -1,5 +1,7 @@
 // The check of a table for broken and equal nodes, which enters them into its index. The definitions are in the crate `table`, the index in the crate
 // `index`.
+#![tactic(auto)]
+
 ghost use Rattle.std.specs.Prelude.{◌≡◌, true, ◌*◌, ◌≤◌, ◌<◌, length};
 ghost use Rattle.table.specs.Nodes.{capacity, broken, sound};
 ghost use Rattle.index.specs.Index.{Empty, Ready};

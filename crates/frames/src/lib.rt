@@ -1,5 +1,7 @@
 // The frames of an application in a lent stack's words, and what an application's state becomes when a frame is written or taken. The definitions
 // are in the crate `applying`; specs/ says what the code's own values mean in their terms.
+#![tactic(auto)]
+
 ghost use Rattle.std.specs.Prelude.{◌≡◌, List, ℕ, ◌+◌, ◌*◌, ◌≤◌, ◌<◌, length};
 ghost use Rattle.table.specs.Outcome.{frames};
 ghost use Rattle.applying.specs.Machine.{resume, hold};
@@ -11,7 +13,7 @@ use calculus::Uses;
 
 // A state of an application: the node applied and its argument, how many frames are held, and the uses so far. The nodes and the frames
 // themselves lie in the lent words. Where the application is done, `function` is the outcome's node.
-#[derive(Drop)]
+#[derive(Clone, Copy)]
 pub struct Machine {
     pub used: usize,
     pub function: usize,
@@ -26,7 +28,7 @@ pub struct Machine {
 }
 
 // What a use led to: a further application, the outcome, or a stop for want of a node or a frame.
-#[derive(Drop)]
+#[derive(Clone, Copy)]
 pub enum End {
     More,
     Done,
@@ -35,7 +37,7 @@ pub enum End {
 }
 
 // The state lies beside the end, not in it, so that a loop over uses keeps it in registers.
-#[derive(Drop)]
+#[derive(Clone, Copy)]
 pub struct Turned {
     pub state: Machine,
     pub end: End,

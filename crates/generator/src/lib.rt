@@ -1,5 +1,7 @@
 // Loads in code: what is drawn from a seed, the digit that is taken for it, the load written to out, and the numbers of the answer. The definitions and
 // their theorems are in the crate `loads`. Assumes nothing.
+#![tactic(auto)]
+
 ghost use Rattle.std.specs.Prelude.{◌≡◌, true, [], ◌++◌, ◌+◌, ◌≤◌, ◌<◌, length, drop};
 ghost use Rattle.std.proofs.Math.Option.{some};
 ghost use Rattle.table.specs.Outcome.{whole_out};

@@ -1,6 +1,8 @@
 // A hashed index of a table's used nodes, in memory that the operation owns: it finds the node with given words without going through the table. An
 // entry is 0 if it is empty, else a node's number. The leaf is node 0 of every table in use and needs no entry; so a number fits 16 bits, and an index
 // takes half the memory of one that has an entry for it. Nodes are wanted in one place, here.
+#![tactic(auto)]
+
 ghost use Rattle.std.specs.Prelude.{◌≡◌, ◌+◌, ◌*◌, ◌≤◌, ◌<◌, length};
 ghost use Rattle.table.specs.Nodes.{capacity, has_words, make};
 ghost use Rattle.table.specs.Outcome.{whole, settled};
@@ -11,14 +13,14 @@ ghost use Rattle.index.specs.Code.{Sought, got_by, ReadyGot};
 use table::{Made, Refusal};
 
 // What a search meets first: the node with both words, or an empty entry.
-#[derive(Drop)]
+#[derive(Clone, Copy)]
 pub enum Found {
     Node(usize),
     Place(usize),
 }
 
 // The node found or made, with the count of used nodes; or no place for it.
-#[derive(Drop)]
+#[derive(Clone, Copy)]
 pub enum Got {
     Node { node: usize, used: usize },
     Full,

@@ -1,5 +1,7 @@
 // Label on a table that is sound and has its index: a rule's tree with a label tree in it. The definition and its theorems are in the crate `labelled`;
 // specs/ says what the code's own parts make in its terms.
+#![tactic(auto)]
+
 ghost use Rattle.std.specs.Prelude.{◌≡◌, [], ◌<◌};
 ghost use Rattle.table.specs.Outcome.{whole};
 ghost use Rattle.index.specs.Index.{Ready};

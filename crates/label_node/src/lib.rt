@@ -1,5 +1,7 @@
 // Label as an operation on lent memory: the checks, then the crate `label`. It owns the index of the table's nodes (crate `index`), in five sizes, so that
 // a table pays for an index about as long as it needs; the longest are met after the most tests, as in the crate `entry_check`.
+#![tactic(auto)]
+
 ghost use Rattle.std.specs.Prelude.{◌≡◌, true, [], ◌≤◌, length};
 ghost use Rattle.std.proofs.Math.Option.{none};
 ghost use Rattle.table.specs.Outcome.{whole, at_entry};

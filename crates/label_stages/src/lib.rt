@@ -1,6 +1,8 @@
 // The stages of `label_packet` on a packet that passed the checks: Translate, Read of the label, Label, Write. Each stage is a function that ends in the
 // next one, as in the definition (the crate `labelling`), on a table that is sound throughout and keeps its index. specs/ and the crates `endings` and
 // `index` say what the stages ask.
+#![tactic(auto)]
+
 ghost use Rattle.std.specs.Prelude.{◌≡◌, ◌≤◌, ◌<◌, length};
 ghost use Rattle.table.specs.Outcome.{whole_out};
 ghost use Rattle.index.specs.Index as indexing;

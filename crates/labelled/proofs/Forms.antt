@@ -26,22 +26,22 @@ is_k_lem leaf e = zero_one (cc)
 is_k_lem (stem p) e = ap stem (is_leaf_lem p e)
 is_k_lem (fork p q) e = zero_one (cc)
 
-is_kk : (x : Tree) → is_kk x ≡ true → x ≡ fork leaf (stem leaf)
+is_kk_lem : (x : Tree) → is_kk x ≡ true → x ≡ fork leaf (stem leaf)
 unfolding is_kk
-is_kk leaf e = zero_one (cc)
-is_kk (stem p) e = zero_one (cc)
-is_kk (fork p q) e = ap₂ fork (is_leaf_lem p (and_left (is_leaf p) (is_k q) e)) (is_k_lem q (and_right (is_leaf p) (is_k q) e))
+is_kk_lem leaf e = zero_one (cc)
+is_kk_lem (stem p) e = zero_one (cc)
+is_kk_lem (fork p q) e = ap₂ fork (is_leaf_lem p (and_left (is_leaf p) (is_k q) e)) (is_k_lem q (and_right (is_leaf p) (is_k q) e))
 
-is_k_of : (x : Tree) → is_k_of x ≡ true → IsKOf x
+is_k_of_lem : (x : Tree) → is_k_of x ≡ true → IsKOf x
 unfolding is_k_of
-is_k_of leaf e = zero_one (cc)
-is_k_of (stem p) e = zero_one (cc)
-is_k_of (fork p q) e = record { inner = q; form = ap (λ (z : Tree). fork z q) (is_leaf_lem p e) }
+is_k_of_lem leaf e = zero_one (cc)
+is_k_of_lem (stem p) e = zero_one (cc)
+is_k_of_lem (fork p q) e = record { inner = q; form = ap (λ (z : Tree). fork z q) (is_leaf_lem p e) }
 
 is_label_branch_lem : (x : Tree) → is_label_branch x ≡ true → (t : Tree) × (x ≡ stem (fork leaf t))
 unfolding is_label_branch
 is_label_branch_lem leaf e = zero_one (cc)
-is_label_branch_lem (stem p) e = let k = is_k_of p e in (k.inner, ap stem k.form)
+is_label_branch_lem (stem p) e = let k = is_k_of_lem p e in (k.inner, ap stem k.form)
 is_label_branch_lem (fork p q) e = zero_one (cc)
 
 is_rule_branch_lem : (x : Tree) → is_rule_branch x ≡ true → (f : Tree) × (x ≡ fork (stem f) (fork leaf (stem leaf)))
@@ -50,7 +50,7 @@ is_rule_branch_lem leaf e = zero_one (cc)
 is_rule_branch_lem (stem p) e = zero_one (cc)
 is_rule_branch_lem (fork p q) e =
     let s = is_stem_lem p (and_left (is_stem p) (is_kk q) e) in
-    (s.0, ap₂ fork s.1 (is_kk q (and_right (is_stem p) (is_kk q) e)))
+    (s.0, ap₂ fork s.1 (is_kk_lem q (and_right (is_stem p) (is_kk q) e)))
 
 is_labelled_lem : (x : Tree) → is_labelled x ≡ true → IsLabelled x
 unfolding is_labelled

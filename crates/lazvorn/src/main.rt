@@ -1,5 +1,7 @@
 // The program: a packet on standard input, one line on standard output: refusal or 0, steps, used and text, parted by blanks, with a dash for the
 // text of what was refused.
+#![tactic(auto)]
+
 use libc::{STDIN_FILENO, STDOUT_FILENO};
 use running::Ran;
 

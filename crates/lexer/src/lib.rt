@@ -1,11 +1,13 @@
 // Rule text to words, one for each token. The spelling and the laws that callers cite are in the crate `grammar`; specs/ says what the functions ask
 // and give in its terms. Assumes nothing.
+#![tactic(auto)]
+
 ghost use Rattle.std.specs.Prelude.{◌≡◌, ◌+◌, ◌≤◌, ◌<◌, length};
 ghost use Rattle.grammar.specs.Words.{letter, is_sign, lex};
 ghost use Rattle.lexer.specs.Code.{Flushed, Lexes};
 
 // How many words a text is, or that it spells no tokens at all.
-#[derive(Drop)]
+#[derive(Clone, Copy)]
 pub enum Lexed {
     Words(usize),
     Broken,

@@ -66,7 +66,7 @@ module _ (seed n : ℕ) (k : IsCount n) where
     load-refused e q = go (read_lacks w u s (load seed n) e q)
       where
         go : {f : Refusal} {w' s' : List ℕ} → ReadLacks w u s (load seed n) f w' s' → LoadLacks w u s (load seed n) f
-        go (ReadLacks.at_entry_lem p) = LoadLacks.at_entry_lem p
+        go (ReadLacks.of_entry p) = LoadLacks.of_entry p
         go (ReadLacks.no_text p r) = zero_one (cc (some_readable load_readable))
         go (ReadLacks.no_frames p r h) = LoadLacks.no_frames p h
         go (ReadLacks.no_nodes p r h a) = LoadLacks.no_nodes p h r.tree_is a

@@ -1,5 +1,7 @@
 // Apply on a table that is known to be sound: uses of the five rules up to a limit, and how they end. The definitions and the laws that callers cite are in
 // the crate `applying`; one use is in the crate `rules`.
+#![tactic(auto)]
+
 ghost use Rattle.std.specs.Prelude.{◌≡◌, ◌+◌, ◌*◌, ◌≤◌, ◌<◌};
 ghost use Rattle.calculus.specs.Uses.{steps};
 ghost use Rattle.table.specs.Nodes.{Sound, cleared};

@@ -1,5 +1,7 @@
 // The code of a node's tree ([12]): the digits of its text taken until they are too many, and the operation. The definitions and their theorems are in the
 // crate `short_codes`, the table of values is in `code_values`; specs/ says what the code's own values mean in their terms.
+#![tactic(auto)]
+
 ghost use Rattle.std.specs.Prelude.{◌≡◌, ◌≤◌, ◌<◌};
 ghost use Rattle.table.specs.Nodes.{tree_at};
 ghost use Rattle.table.specs.Branches.{InUse};
@@ -11,7 +13,7 @@ use checks::Checked;
 use table::{Given, Refusal};
 
 // What the digits of a text come to: how many there are and their value, or more than ten digits.
-#[derive(Drop)]
+#[derive(Clone, Copy)]
 enum Valued {
     Short { many: usize, value: usize },
     Long,

@@ -1,11 +1,13 @@
 // A lent table's and a lent stack's words in code: the one place that writes nodes and clears words. The definitions and the laws that callers
 // cite are in the crate `table`; specs/ says what the code's own values mean in their terms.
+#![tactic(auto)]
+
 ghost use Rattle.std.specs.Prelude.{◌≡◌, ◌+◌, ◌*◌, ◌≤◌, ◌<◌, length, get_or};
 ghost use Rattle.table.specs.Nodes.{new_node, cleared};
 ghost use Rattle.nodes.specs.Code.{placed_by};
 
 // A node that was made, and the count of used nodes with it.
-#[derive(Drop)]
+#[derive(Clone, Copy)]
 pub struct NewNode {
     pub node: usize,
     pub used: usize,

@@ -1,5 +1,7 @@
 // What stands between two operands of an expression, and the operators that it completes: words to postfix symbols. The grammar and its reader are in
 // the crate `grammar`; specs/ says what the functions ask and give in its terms. Assumes nothing.
+#![tactic(auto)]
+
 ghost use Rattle.std.specs.Prelude.{List, ◌++◌, ℕ, ◌+◌, ◌≤◌, length, replicate};
 ghost use Rattle.std.proofs.Math.Option.{Option};
 ghost use Rattle.grammar.specs.Expression.{Expression};
@@ -8,7 +10,7 @@ ghost use Rattle.table.specs.Wrote.{Wrote};
 ghost use Rattle.operators.specs.Code.{JointAt, Bangs, Begun, AfterAsks, Afters};
 
 // What stands after an application.
-#[derive(Drop)]
+#[derive(Clone, Copy)]
 pub enum Joint {
     Operand,
     End,
@@ -19,7 +21,7 @@ pub enum Joint {
 }
 
 // The place of an operand and of its symbols, and how many operators wait for it.
-#[derive(Drop)]
+#[derive(Clone, Copy)]
 pub struct Waiting {
     pub at: usize,
     pub end: usize,
@@ -31,7 +33,7 @@ pub struct Waiting {
 }
 
 // What is next after an operand: another one, the end of the expression and of its symbols, or what no expression goes on with.
-#[derive(Drop)]
+#[derive(Clone, Copy)]
 pub enum Step {
     More(Waiting),
     Done(usize),

@@ -1,5 +1,7 @@
 // The fields of a packet: where the rule, the arguments' texts and the label's stand in it, and the step limit. The definition is in the crate `fields`,
 // the laws that callers cite are in proofs/. A value is a part of the packet, `&packet[start..end]`, and is not copied.
+#![tactic(auto)]
+
 ghost use Rattle.std.specs.Prelude.{◌≡◌, List, ℕ, ◌+◌, ◌≤◌, ◌<◌, length, get_or, take, drop};
 ghost use Rattle.fields.specs.Packet.{high_first};
 ghost use Rattle.fields.specs.Packet as reading;
@@ -7,7 +9,7 @@ ghost use Rattle.fields.specs.Packet.{after_limit, after_arguments, after_rule};
 ghost use Rattle.packet.specs.Code.{end_at, part_at, found_at, fields_from, with_fields, form_of, counted};
 
 // Where a field's value stands: packet[start..end].
-#[derive(Drop)]
+#[derive(Clone, Copy)]
 pub struct Part {
     pub start: usize,
     pub end: usize,
@@ -15,7 +17,7 @@ pub struct Part {
 
 // What a packet is: broken, or whole, with so many arguments and this step limit; its last `label_size` bytes are the label's field, and it has
 // none where that is 0.
-#[derive(Drop)]
+#[derive(Clone, Copy)]
 pub enum Form {
     Whole {
         arguments: usize,
@@ -26,7 +28,7 @@ pub enum Form {
 }
 
 // What stands at a position: a field with its tag, which ends there, or none that ends within the packet.
-#[derive(Drop)]
+#[derive(Clone, Copy)]
 enum Found {
     Field { tag: usize, end: usize },
     Nothing,

@@ -1,5 +1,7 @@
 // The checks that the readers of a packet share: lengths, for 1; and of a whole packet its rule, for 5, and its texts, for 4. The definitions and
 // their theorems are in the crate `running`, the laws that callers cite in proofs/.
+#![tactic(auto)]
+
 ghost use Rattle.std.specs.Prelude.{◌≡◌, ◌++◌, ◌≤◌, length};
 ghost use Rattle.checks.specs.Code.{refusal_of};
 ghost use Rattle.packet.specs.Code.{end_at, value_at, Stand, values_at, label_at, LabelStands};

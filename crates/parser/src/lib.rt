@@ -2,6 +2,8 @@
 // `grammar`; specs/ says what the functions ask and give in its terms. Assumes nothing.
 //
 // The names around a place are `names[k..]`, nearest first: the array is filled from its end.
+#![tactic(auto)]
+
 ghost use Rattle.std.specs.Prelude.{◌≡◌, List, ℕ, ◌≤◌, ◌<◌, length, get_or, drop};
 ghost use Rattle.grammar.specs.Reader.{nothing, empty, lookup, parse, operand};
 ghost use Rattle.grammar.specs.Words.{tokens};
@@ -10,14 +12,14 @@ ghost use Rattle.parser.specs.Code.{place_of, IsName, IsBinder, RowAsks, Row, As
 use operators::Step;
 
 // What a phrase gives: the places after its words and after its symbols, or none.
-#[derive(Drop)]
+#[derive(Clone, Copy)]
 pub enum Parsed {
     Phrase { next: usize, end: usize },
     Nothing,
 }
 
 // How many abstractions lie between a name and its own.
-#[derive(Drop)]
+#[derive(Clone, Copy)]
 enum Place {
     At(usize),
     Nowhere,

@@ -1,6 +1,8 @@
 // Ternary text read into a table: whether Read takes a text, its nodes wanted digit by digit, and Read on a table that passed 1 and 2; Read is the crate
 // `read`. The definitions and the laws that callers cite are in the crate `ternary`, the test for a whole text in `whole_text`, nodes are wanted in
 // `index`; specs/ says what the code's own values mean in their terms.
+#![tactic(auto)]
+
 ghost use Rattle.std.specs.Prelude.{◌≡◌, [], ◌-◌};
 ghost use Rattle.table.specs.Outcome.{whole};
 ghost use Rattle.ternary.specs.Laying.{awaits, keep, lay_digit, lay_digits};

@@ -1,4 +1,6 @@
 // The refusals' numbers in code, and those of an answer that gives a number or none. The definitions are in the crate `table`.
+#![tactic(auto)]
+
 ghost use Rattle.std.specs.Prelude.{◌≡◌};
 ghost use Rattle.table.specs.Refusal.{number, given_numbers};
 

@@ -30,8 +30,11 @@ leaf_irreducible e v (at_root q) = elim q [ ]
 pub tree_irreducible : (t : Tree) → Irreducible (term t)
 unfolding term
 tree_irreducible Tree.leaf e v r = leaf_irreducible e v r
+tree_irreducible (stem p) e v (at_root x3) = elim x3 [ ]
 tree_irreducible (stem p) e v (in_function r) = leaf_irreducible e _ r
 tree_irreducible (stem p) e v (in_argument r) = tree_irreducible p e _ r
+tree_irreducible (fork p q) e v (at_root x4) = elim x4 [ ]
+tree_irreducible (fork p q) e _ (in_function {v = v} (at_root x9)) = elim x9 [ ]
 tree_irreducible (fork p q) e v (in_function (in_function r)) = leaf_irreducible e _ r
 tree_irreducible (fork p q) e v (in_function (in_argument r)) = tree_irreducible p e _ r
 tree_irreducible (fork p q) e v (in_argument r) = tree_irreducible q e _ r

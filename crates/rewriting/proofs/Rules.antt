@@ -66,7 +66,7 @@ apply_way (by_triage a b) = then_by (then_by (one_by (at_root of_triage)) (withi
 way_applied : {es : List Equation} {u v : Combination} (Ns : List Tree) → Way u es v → Way (applied u Ns) es (applied v Ns)
 unfolding applied
 way_applied [] p = p
-way_applied (N ∷ Ns) p = way_applied Ns (way_function p)
+way_applied {u = u} {v = v} (N ∷ Ns) p = way_applied {u = app u (term N)} {v = app v (term N)} Ns (way_function p)
 
 pub apply_all_way : {f r : Tree} {Ns : List Tree} {k : Uses} → ApplyAll f Ns r k → WayBy (applied (term f) Ns) (term r) k
 unfolding applied

@@ -2,6 +2,8 @@
 //
 // The arrays are in six sizes, so that a text pays for arrays about as long as it needs. The longest are met after the most tests: a compiler that
 // takes a call behind many tests for a rare one gives its arrays a frame of their own, which the shorter texts then do not touch.
+#![tactic(auto)]
+
 ghost use Rattle.std.specs.Prelude.{◌≡◌, [], ◌≤◌, length};
 ghost use Rattle.table.specs.Outcome.{whole_out};
 ghost use Rattle.grammar.specs.Outcome.{rule_text};

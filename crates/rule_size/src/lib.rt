@@ -1,10 +1,12 @@
 // The size of a rule's tree, counted in one pass over its bytes; specs/ says what a term counts. Assumes nothing.
+#![tactic(auto)]
+
 ghost use Rattle.std.specs.Prelude.{◌≡◌, ℕ, ◌-◌, ◌<◌, ◌≤◌, length, get_or, drop};
 ghost use Rattle.calculus.specs.Bytes.{parse, rule};
 ghost use Rattle.rule_size.specs.Weight.{leaf_weight, measured, size_of};
 
 // What reading a term gives: the place after it, 0 where no term is, and what it counts towards the size of the tree.
-#[derive(Drop)]
+#[derive(Clone, Copy)]
 struct Measured {
     next: usize,
     weight: usize,

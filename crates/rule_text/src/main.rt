@@ -1,5 +1,7 @@
 // The program: a rule text on standard input, less one final newline; one line on standard output: refusal or 0, and the bytes of the term in
 // hexadecimal, or a dash.
+#![tactic(auto)]
+
 ghost use Rattle.std.specs.Prelude.{◌≡◌, ◌*◌, ◌≤◌, ◌<◌, ◌++◌, length, drop};
 ghost use Rattle.rule_text.specs.Line.{digit, digits};
 

@@ -1,5 +1,7 @@
 // One use of the five rules on a table. The definitions and the laws that callers cite are in the crate `applying`; the state and the frames are
 // those of the crate `frames`, and which rule is wanted is told by the crate `wanted`.
+#![tactic(auto)]
+
 ghost use Rattle.std.specs.Prelude.{◌≡◌, ◌*◌, ◌≤◌, ◌<◌, length};
 ghost use Rattle.calculus.specs.Uses.{steps};
 ghost use Rattle.table.specs.Outcome.{frames};

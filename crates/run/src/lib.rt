@@ -1,4 +1,6 @@
 // Run: a packet run and told (the crate `teller`), without where it stopped. The definition and its theorems are in the crate `running`.
+#![tactic(auto)]
+
 ghost use Rattle.std.specs.Prelude.{◌≡◌};
 ghost use Rattle.table.specs.Outcome.{whole_out};
 ghost use Rattle.running.specs.Run.{run};

@@ -108,7 +108,7 @@ translating {w} {s} {o} fit b t is_rule = go r.answer refl
     st = record { fine = record { short = fit.table; within = omega arith; unbroken = refl }; extends = extends_refl empty; stack = refl }
 
     lacked : {e : Refusal} {x y : List ℕ} → Lacks w 0 s b e x y → Lacked s empty (TranslateStops w s t e) x y
-    lacked (Lacks.at_entry_lem q) = zero_one (cc (enters (enter fit.stack st {within = true} refl), lacks_entry q))
+    lacked (Lacks.of_entry q) = zero_one (cc (enters (enter fit.stack st {within = true} refl), lacks_entry q))
     lacked (Lacks.no_rule f h) = zero_one (cc)
     lacked (Lacks.no_frames f {t = t'} a h) =
         let c : t' ≡ t = cc in
@@ -159,7 +159,7 @@ reading {w} {s} {o} fit {z} {y} st l x is = go r.answer refl
 
     lacked : {e : Refusal} {x' y' : List ℕ} → ReadLacks z.words z.used y l e x' y'
         → Lacked s z (λ m. (ls : List (List ℕ)) → ReadStops s z (l ∷ ls) e m) x' y'
-    lacked (ReadLacks.at_entry_lem q) = zero_one (cc (enters (enter fit.stack st {within = true} refl), lacks_entry q))
+    lacked (ReadLacks.of_entry q) = zero_one (cc (enters (enter fit.stack st {within = true} refl), lacks_entry q))
     lacked (ReadLacks.no_text f h) = zero_one (cc)
     lacked (ReadLacks.no_frames f a h) =
         let j : frames s < most_pending l = omega (arith, st.stack) in
@@ -205,8 +205,8 @@ unfolding writes after_written
 writing {w} {s} {o} fit {z} {y} st {v} {x} h k = go (write_case z.words z.used y v o)
   where
     lacked : {e : Refusal} {y' : List ℕ} → WriteLacks z.words z.used y v o e y' → (length y' ≡ length s) × Spent (frames s) 0 x (length o) (write.lacks e)
-    lacked (WriteLacks.at_entry_lem q) = zero_one (cc (enters (enter fit.stack st (le-leb _ _ fit.out)), lacks_entry q))
-    lacked (WriteLacks.no_Node f i) = absurd (omega (arith, h.inside))
+    lacked (WriteLacks.of_entry q) = zero_one (cc (enters (enter fit.stack st (le-leb _ _ fit.out)), lacks_entry q))
+    lacked (WriteLacks.no_node f i) = absurd (omega (arith, h.inside))
     lacked (WriteLacks.no_room f i q) = (zeros_length _ y refl ∙ st.stack, rw (h.tree, st.stack) at q)
 
     go : WriteCase z.words z.used y v o (write.write z.words z.used y v o)

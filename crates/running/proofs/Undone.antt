@@ -120,7 +120,7 @@ unfolding end_table end_onwards
 all_on all limit t v n ns e = rw e
 
 -- wherever the applications have come to, they end in the same table
-pub reached_ends : {all limit : ℕ} {z z' : Table} {v v' : ℕ} {ns ns' : List ℕ} {k : Uses} → Reached all limit z v ns z' v' ns' k
+pub reached_ends : {all limit : ℕ} {z : Table} {v : ℕ} {ns : List ℕ} {z' : Table} {v' : ℕ} {ns' : List ℕ} {k : Uses} → Reached all limit z v ns z' v' ns' k
     → end_table all (limit - steps k) z' v' ns' ≡ end_table all limit z v ns
 reached_ends {limit = limit} at_first = let m : limit - 0 ≡ limit = omega arith in rw m
 reached_ends {all} {limit} (and_applied {z' = z'} {v' = v'} {n = n} {ns' = ns'} {k = k} {j = j} r e) =

@@ -1,4 +1,6 @@
 // Whether two nodes have the same tree. The definition and its theorems are in the crate `table`.
+#![tactic(auto)]
+
 ghost use Rattle.std.specs.Prelude.{◌≡◌};
 ghost use Rattle.table.specs.Same.{same};
 

@@ -3,6 +3,8 @@
 // (the crate `endings`). What is answered tells also where applying stopped.
 // The table is sound throughout and keeps its index, so each stage is the inner operation, and no node is checked again. specs/ and the crates
 // `endings` and `index` say what the stages ask.
+#![tactic(auto)]
+
 ghost use Rattle.std.specs.Prelude.{◌≡◌, List, ℕ, ◌+◌, ◌*◌, ◌≤◌, ◌<◌, length, take};
 ghost use Rattle.calculus.specs.Uses.{no_uses};
 ghost use Rattle.table.specs.Outcome.{whole_out};
@@ -19,7 +21,7 @@ use running::{Ran, Stop, Told};
 use table::{Made, Refusal};
 
 // What is to be applied once the rule is translated: its node, to so many arguments, under this step limit.
-#[derive(Drop)]
+#[derive(Clone, Copy)]
 struct Applications {
     rule: usize,
     count: usize,

@@ -1,5 +1,7 @@
 // The program: a packet on standard input, one line on standard output. For a stop while applying: Run's number, the argument's place, the steps of the
 // whole run and the name of the rule wanted, parted by blanks. For every other outcome: Run's number alone.
+#![tactic(auto)]
+
 use libc::{STDIN_FILENO, STDOUT_FILENO};
 use stopping::{Kind, Stopped};
 use table::Refusal;

@@ -96,8 +96,8 @@ module _ {w s o l : List ℕ} {p : Packet} {t : Term} {args : List Tree} (checke
       entered = record { table = st.fine; stack = omega (arith, checked.fit.stack); limits_kept = le-leb (length o) 65535 checked.fit.out }
 
       lacked : {d : Refusal} {x' : List ℕ} → WriteLacks y.words y.used x v o d x' → Past w s p t e place j c (Refused d)
-      lacked (WriteLacks.at_entry_lem f) = zero_one (cc (enters entered, lacks_entry f))
-      lacked (WriteLacks.no_Node f i) = absurd (omega (arith, st.function_in))
+      lacked (WriteLacks.of_entry f) = zero_one (cc (enters entered, lacks_entry f))
+      lacked (WriteLacks.no_node f i) = absurd (omega (arith, st.function_in))
       lacked (WriteLacks.no_room f i (no_out m)) = no_bytes all
       lacked (WriteLacks.no_room f i (no_frame m)) = no_frames all
 

@@ -1,9 +1,11 @@
 // Where a run stopped as a definition, in specs/, and its theorems, in proofs/: the rule wanted is the next use by the five rules, the thing named is the
 // first that it lacked, and one more of it carries the run past that check. The code is in the crates `stages`, `teller` and `stops`.
+#![tactic(auto)]
+
 use table::Refusal;
 
 // Which of the five rules.
-#[derive(Drop)]
+#[derive(Clone, Copy)]
 pub enum Kind {
     Leaf,
     Stem,
@@ -14,7 +16,7 @@ pub enum Kind {
 
 // What `stopped` answers: for a stop while applying Run's refusal, the argument's place from 1, the steps of the whole run and the rule wanted; for every
 // other outcome Run's number alone.
-#[derive(Drop)]
+#[derive(Clone, Copy)]
 pub enum Stopped {
     Applying {
         refusal: Refusal,

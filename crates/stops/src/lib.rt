@@ -1,5 +1,7 @@
 // Where a run stopped: a packet run and told (the crate `teller`), and what `stopped` gives of it. The definition and its theorems are in the crate
 // `stopping`.
+#![tactic(auto)]
+
 ghost use Rattle.std.specs.Prelude.{◌≡◌};
 ghost use Rattle.table.specs.Outcome.{whole_out};
 ghost use Rattle.stopping.specs.Stopped as stopping;

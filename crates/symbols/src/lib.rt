@@ -1,19 +1,21 @@
 // Postfix symbols measured: how many bytes their term has, how many of them are abstractions, and how deep these nest. What the symbols mean is in the
 // crate `grammar`; specs/ says what the functions ask and give in its terms. Assumes nothing.
+#![tactic(auto)]
+
 ghost use Rattle.std.specs.Prelude.{◌≡◌, ℕ, ◌≤◌, List, ◌++◌, length, take};
 ghost use Rattle.grammar.specs.Expression.{Expression};
 ghost use Rattle.grammar.specs.Postfix.{postfix, lead, total, abstractions};
 ghost use Rattle.symbols.specs.Code.{NestsAsks, Nests};
 
 // How many bytes the term of symbols has, and how many of the symbols are abstractions.
-#[derive(Drop)]
+#[derive(Clone, Copy)]
 pub struct Sizes {
     pub bytes: usize,
     pub abstractions: usize,
 }
 
 // Where the symbols of a term begin, and how many abstractions nest in it.
-#[derive(Drop)]
+#[derive(Clone, Copy)]
 pub struct Nested {
     pub from: usize,
     pub depth: usize,

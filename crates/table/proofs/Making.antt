@@ -225,7 +225,7 @@ lay_places {t} s (fork p q) e =
     let m = g.first in
     let h = and_got (lay m.table p) (λ n. make n.table (n.node + 1) (m.node + 1)) g.rest in
     let x = lay_places s q g.first_is in
-    let z = lay_places x.fine p h.first_is in
+    let z = lay_places {t = m.table} x.fine p h.first_is in
     further (further x z) (fork_of z.fine (has z) (stays x.fine z.extends.kept (has x)) h.rest)
 
 -- at most one new node for each node of the tree

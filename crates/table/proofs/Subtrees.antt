@@ -60,7 +60,7 @@ lay_new {t} s (fork p q) e =
     let y = fork_of z.fine (has z) (stays x.fine z.extends.kept (has x)) h.rest in
     let both : (i : ℕ) → t.used ≤ i → i < h.first.table.used → Within (tree_at h.first.table.words i) (fork p q) =
     λ i k l. parts m.table h.first.table i (λ c. new_kept x.fine z.extends.kept (λ w. in_second) (lay_new s q g.first_is) i k c)
-    (λ c. in_first (lay_new x.fine p h.first_is i c l)) in
+    (λ c. in_first (lay_new {t = m.table} x.fine p h.first_is i c l)) in
     and_made (h.first.node + 1) (m.node + 1) h.rest y (new_kept z.fine y.extends.kept (λ w v. v) both)
   where
     parts : (a b : Table) (i : ℕ) → (i < a.used → Within (tree_at b.words i) (fork p q)) → (a.used ≤ i → Within (tree_at b.words i) (fork p q))
@@ -72,7 +72,7 @@ lay_new {t} s (fork p q) e =
         go false e = g (ltb-false i a.used e)
 
 -- a table that has a tree has each tree in it
-pub within_has : {t : Table} → Sound t → {x y : Tree} → Within y x → (i : ℕ) → Has t i x → (j : ℕ) × Has t j y
+pub within_has : {t : Table} → Sound t → {y x : Tree} → Within y x → (i : ℕ) → Has t i x → (j : ℕ) × Has t j y
 within_has s itself i h = (i, h)
 within_has {t} s (in_stem {p = p} w) i h = go (branched s i h.inside) h.tree (λ j k. within_has s w j k)
   where

@@ -1,8 +1,9 @@
 // A lent table's words as nodes, the refusals, and what the operations share, as definitions, in specs/, and their theorems, in proofs/. The code
 // over a table is in the crates `nodes`, `index`, `fill`, `checks`, `entry_check`, `same` and `refusals`.
+#![tactic(auto)]
 
 // Why an operation was refused. `specs/Refusal.antt` gives the number of each.
-#[derive(Drop)]
+#[derive(Clone, Copy)]
 pub enum Refusal {
     // a length, a count or a limit is too large
     Limits,
@@ -35,14 +36,14 @@ pub enum Refusal {
 }
 
 // The answer of an operation that makes nodes: the node and the new count of used nodes.
-#[derive(Drop)]
+#[derive(Clone, Copy)]
 pub enum Made {
     Node { node: usize, used: usize },
     Refused(Refusal),
 }
 
 // The answer of `same`: whether two nodes have the same tree.
-#[derive(Drop)]
+#[derive(Clone, Copy)]
 pub enum Compared {
     Equal,
     Different,
@@ -50,7 +51,7 @@ pub enum Compared {
 }
 
 // The answer of an operation that gives a number or none.
-#[derive(Drop)]
+#[derive(Clone, Copy)]
 pub enum Given {
     Number(usize),
     Nothing,

@@ -4,6 +4,8 @@
 // The stages share one index of the table's nodes, which is empty at first, as the table is. It is in five sizes, so that a table pays for an index about as
 // long as it needs. The longest are met after the most tests: a compiler that takes a call behind many tests for a rare one gives its array a frame of its own,
 // which the shorter tables then do not touch.
+#![tactic(auto)]
+
 ghost use Rattle.std.specs.Prelude.{◌≡◌, true, ◌≤◌, length};
 ghost use Rattle.table.specs.Outcome.{whole_out};
 ghost use Rattle.fields.specs.Packet as reading;

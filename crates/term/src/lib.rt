@@ -3,6 +3,8 @@
 //
 // The rule's run has one word less than two for each node of the tree unshared, and so has the work space behind it: four of the six words that the
 // check for frames asks of the stack for each node.
+#![tactic(auto)]
+
 ghost use Rattle.std.specs.Prelude.{◌≡◌, ◌≤◌, length};
 ghost use Rattle.std.proofs.Math.Option.{some};
 ghost use Rattle.calculus.specs.Tree.{Tree};

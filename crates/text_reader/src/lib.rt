@@ -1,5 +1,7 @@
 // Rule text to a rule's bytes, over arrays for the words of a text, the names around a place and the symbols. The definition and the laws that callers
 // cite are in the crate `grammar`; specs/ says what the functions ask. Assumes nothing.
+#![tactic(auto)]
+
 ghost use Rattle.std.specs.Prelude.{◌≡◌, [], take, leb};
 ghost use Rattle.std.proofs.Math.Option.{some};
 ghost use Rattle.calculus.specs.Term.{nesting};

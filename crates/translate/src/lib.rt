@@ -3,6 +3,8 @@
 //
 // The index is an array of its own, in four sizes, so that a table pays for an index about as long as it needs. The longest are met after the most tests,
 // and the work of the call stands beside the array: so a compiler gives them frames of their own, which the shorter tables then do not touch.
+#![tactic(auto)]
+
 ghost use Rattle.std.specs.Prelude.{◌≡◌, ◌≤◌, length};
 ghost use Rattle.table.specs.Outcome.{whole};
 ghost use Rattle.translation.specs.Translate.{translate};

@@ -35,7 +35,7 @@ module _ (w : List ℕ) (u : ℕ) (s b : List ℕ) where
     where
       go : (a : Option Refusal) (r : Option Term) → at_entry true w u s ≡ a → rule b ≡ r
           → Case w u s b (unless a (λ e. whole (Refused e) w s) (translate_rule w u s r))
-      go (some e) r p q = refuses (Lacks.at_entry_lem (entry_lacks true w u s p)) refl
+      go (some e) r p q = refuses (Lacks.of_entry (entry_lacks true w u s p)) refl
       go none none p q = refuses (Lacks.no_rule (entered true w u s p) q) refl
       go none (some t) p q = room (room_case w u s (2 * size (rule_tree t)) (rule_tree t))
         where
@@ -85,7 +85,7 @@ module _ (w : List ℕ) (u : ℕ) (s b : List ℕ) where
     translate-refused = go translate-lacks
       where
         go : {f : Refusal} {x y : List ℕ} → Lacks w u s b f x y → Kept (record { words = w; used = u }) (record { words = x; used = u })
-        go (Lacks.at_entry_lem h) = kept_refl _
+        go (Lacks.of_entry h) = kept_refl _
         go (Lacks.no_rule n h) = kept_refl _
         go (Lacks.no_frames n h k) = kept_refl _
         go (Lacks.no_nodes n h k l) = full_kept (record { words = w; used = u }) n.table.within
@@ -93,7 +93,7 @@ module _ (w : List ℕ) (u : ℕ) (s b : List ℕ) where
   -- The other way: on each condition its refusal comes.
   pub translate_stops : {e : Refusal} {x y : List ℕ} → Lacks w u s b e x y → translate w u s b ≡ whole (Refused e) x y
   unfolding translate translate_rule
-  translate_stops (Lacks.at_entry_lem h) = rw (lacks_entry h)
+  translate_stops (Lacks.of_entry h) = rw (lacks_entry h)
   translate_stops (Lacks.no_rule n h) = rw (enters n, h)
   translate_stops (Lacks.no_frames n {t} h k) = rw (enters n, h) (sym (frames_refused w u s (2 * size (rule_tree t)) (rule_tree t) k))
   translate_stops (Lacks.no_nodes n {t} h k {z} l) =

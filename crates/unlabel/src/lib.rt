@@ -1,5 +1,7 @@
 // The nodes of rule and label out of a labelled tree. The definition and its theorems are in the crate `labelled`; specs/ says what the code's own values
 // mean in its terms.
+#![tactic(auto)]
+
 ghost use Rattle.std.specs.Prelude.{◌≡◌};
 ghost use Rattle.table.specs.Nodes.{tree_at};
 ghost use Rattle.table.specs.Branches.{InUse};
@@ -11,7 +13,7 @@ use labelled::Unlabelled;
 use table::Refusal;
 
 // A node by its branches: a leaf, the stem of a node, or the fork of two.
-#[derive(Drop)]
+#[derive(Clone, Copy)]
 enum Shape {
     Leaf,
     Stem(usize),
@@ -19,7 +21,7 @@ enum Shape {
 }
 
 // The node of the label or of the rule under one of the two branches, where the branch has its form.
-#[derive(Drop)]
+#[derive(Clone, Copy)]
 enum Under {
     Node(usize),
     Other,

@@ -1,4 +1,6 @@
 // Which of the five rules applying a node takes. The definition is in the crate `applying`.
+#![tactic(auto)]
+
 ghost use Rattle.std.specs.Prelude.{◌≡◌, ◌+◌, ◌-◌, ◌*◌, ◌<◌, length};
 ghost use Rattle.table.specs.Nodes.{first};
 ghost use Rattle.applying.specs.Machine.{fork_rule, rule};

@@ -1,4 +1,6 @@
 // The check of a week, a day and a minute in code: 13. The definitions and their theorems are in the crate `week`.
+#![tactic(auto)]
+
 ghost use Rattle.std.specs.Prelude.{◌≡◌};
 ghost use Rattle.week.specs.Weeks.{is_day, is_week, passes};
 ghost use Rattle.week_check.specs.Code.{fits};

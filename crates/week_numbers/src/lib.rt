@@ -1,4 +1,6 @@
 // A week that is lent as 84 numbers, and its answers. The definitions are in the crate `week`.
+#![tactic(auto)]
+
 ghost use Rattle.std.specs.Prelude.{◌≡◌, ◌+◌, ◌≤◌, length};
 ghost use Rattle.week.specs.Weeks.{window_at, next_window};
 ghost use Rattle.week.specs.Lent.{place_of, day_of, week_of, lent};

@@ -1,5 +1,7 @@
 // The operations on weights that only read ([9]): the grams of a node, and two nodes compared. The definitions and their theorems are in the crate
 // `weights`, the digits are read in `weight_digits`.
+#![tactic(auto)]
+
 ghost use Rattle.std.specs.Prelude.{◌≡◌, ◌≤◌};
 ghost use Rattle.weights.specs.Digits.{grams_of, compare_digits};
 ghost use Rattle.weights.specs.Weights as weighing;

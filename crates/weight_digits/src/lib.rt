@@ -1,5 +1,7 @@
 // The digits of a weight out of a node's tree ([9]). The definitions and their theorems are in the crate `weights`; specs/ says what the code's own values
 // mean in their terms. Any words can be read; what is read is the tree's of a node that is in use in a sound table, which a caller may check afterwards.
+#![tactic(auto)]
+
 ghost use Rattle.std.specs.Prelude.{◌≡◌, true, ◌≤◌};
 ghost use Rattle.table.specs.Nodes.{tree_at};
 ghost use Rattle.table.specs.Branches.{InUse};
@@ -8,14 +10,14 @@ ghost use Rattle.weights.specs.Claims.{NineDigits};
 ghost use Rattle.weight_digits.specs.Code.{digit_by, digits_by, FirstItem};
 
 // Nine digits, lowest first, and whether a weight's were found.
-#[derive(Drop)]
+#[derive(Clone, Copy)]
 pub struct Digits {
     pub found: bool,
     pub digits: [usize; 9],
 }
 
 // The first item of a list and the node of the list after it; the digit is 10 where there is none.
-#[derive(Drop)]
+#[derive(Clone, Copy)]
 struct Item {
     digit: usize,
     rest: usize,

@@ -1,5 +1,7 @@
 // The list of nine digits laid out in a table ([9]): its text is written into an array, and Read takes it, with a stack of three frames of its own. The
 // definitions and their theorems are in the crate `weights`.
+#![tactic(auto)]
+
 ghost use Rattle.std.specs.Prelude.{◌≡◌, [], ◌∷◌, ◌+◌, ◌≤◌, length};
 ghost use Rattle.std.proofs.Math.Option.{some};
 ghost use Rattle.table.specs.Outcome.{whole};

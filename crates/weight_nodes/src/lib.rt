@@ -1,5 +1,7 @@
 // The operations on weights that make nodes ([9]): the weight of a number of grams, and the sum of two weights. The definitions and their theorems are in
 // the crate `weights`; `weight_list` lays a list of digits out, with the checks 1 and 2. So that no table is checked twice, digits are read before it is.
+#![tactic(auto)]
+
 ghost use Rattle.std.specs.Prelude.{◌≡◌, true, []};
 ghost use Rattle.table.specs.Nodes.{tree_at};
 ghost use Rattle.table.specs.Branches.{InUse};

@@ -1,5 +1,7 @@
 // The numbers of the answers of `grams` and `compare_weights` ([9]), as the exported functions put them into the caller's array. The definitions are in the
 // crate `weights`.
+#![tactic(auto)]
+
 ghost use Rattle.std.specs.Prelude.{◌≡◌};
 ghost use Rattle.weights.specs.Weights.{weighed_numbers, ordered_numbers};
 

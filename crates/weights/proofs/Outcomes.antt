@@ -113,7 +113,7 @@ module _ (w : List ℕ) (u g : ℕ) where
   weight_case = go (at_entry true w u []) (leb g 999999999) refl refl
     where
       go : (o : Option Refusal) (z : Bool) → at_entry true w u [] ≡ o → leb g 999999999 ≡ z → WeightMade w u g (weight w u g)
-      go (some e) z p q = WeightMade.at_entry_lem (entry_lacks true w u [] p) (weight_refused p)
+      go (some e) z p q = WeightMade.of_entry (entry_lacks true w u [] p) (weight_refused p)
       go none true p q =
           let i = every_weight g (leb-true g 999999999 q) in
           WeightMade.laid_out p i (subst (LaidOut w u (weight_tree g)) (sym (weight_laid p i)) (laid_case w u (weight_tree g) (sound_table w u p)))
@@ -123,7 +123,7 @@ module _ (w : List ℕ) (u g : ℕ) where
   weight_made_exactly o = (λ e. subst (WeightMade w u g) e weight_case, only)
     where
       only : WeightMade w u g o → weight w u g ≡ o
-      only (WeightMade.at_entry_lem l e) = weight_refused (lacks_entry l) ∙ sym e
+      only (WeightMade.of_entry l e) = weight_refused (lacks_entry l) ∙ sym e
       only (WeightMade.above_top p h e) = weight_above p h ∙ sym e
       only (WeightMade.laid_out p {x = x} i k) = weight_laid p i ∙ laid_only w u x (sound_table w u p) k
 
@@ -132,7 +132,7 @@ module _ (w : List ℕ) (u g : ℕ) where
   weight_gives {v} {u'} q = go weight_case
     where
       go : WeightMade w u g (weight w u g) → (g ≤ 999999999) × Lays w u (weight_tree g) (weight w u g) v u'
-      go (WeightMade.at_entry_lem l e) = zero_one (cc)
+      go (WeightMade.of_entry l e) = zero_one (cc)
       go (WeightMade.above_top p h e) = zero_one (cc)
       go (WeightMade.laid_out p {x = x} i k) =
           let b = (weight_exactly x g).0 i in
@@ -184,7 +184,7 @@ module _ (w : List ℕ) (u a b : ℕ) where
       out p n = WeightsAdded.not_in_use p n (add_no_node p n)
 
       go : (o : Option Refusal) (x y : Bool) → at_entry true w u [] ≡ o → ltb a u ≡ x → ltb b u ≡ y → WeightsAdded w u a b (add_weights w u a b)
-      go (some e) x y p q r = WeightsAdded.at_entry_lem (entry_lacks true w u [] p) (add_refused p)
+      go (some e) x y p q r = WeightsAdded.of_entry (entry_lacks true w u [] p) (add_refused p)
       go none false y p q r = out p (λ h k. omega (arith, ltb-false a u q))
       go none true false p q r = out p (λ h k. omega (arith, ltb-false b u r))
       go none true true p q r = weights (record { entered = p; first_in = ltb-true a u q; second_in = ltb-true b u r }) (both (tree_at w a) (tree_at w b))
@@ -193,7 +193,7 @@ module _ (w : List ℕ) (u a b : ℕ) where
   add_exactly o = (λ e. subst (WeightsAdded w u a b) e add_case, only)
     where
       only : WeightsAdded w u a b o → add_weights w u a b ≡ o
-      only (WeightsAdded.at_entry_lem l e) = add_refused (lacks_entry l) ∙ sym e
+      only (WeightsAdded.of_entry l e) = add_refused (lacks_entry l) ∙ sym e
       only (WeightsAdded.not_in_use p n e) = add_no_node p n ∙ sym e
       only (WeightsAdded.not_weights c n e) = add_no_digits c (no_sum (tree_at w a) (tree_at w b) (λ g h i j. n g h (record { one = i; two = j }))) ∙ sym e
       only (WeightsAdded.above_top c r k e) = add_no_digits c (sum_above r.one r.two k) ∙ sym e
@@ -205,7 +205,7 @@ module _ (w : List ℕ) (u a b : ℕ) where
   add_gives {v} {u'} {g} {h} q r = go add_case
     where
       go : WeightsAdded w u a b (add_weights w u a b) → (g + h ≤ 999999999) × Lays w u (weight_tree (g + h)) (add_weights w u a b) v u'
-      go (WeightsAdded.at_entry_lem l e) = zero_one (cc)
+      go (WeightsAdded.of_entry l e) = zero_one (cc)
       go (WeightsAdded.not_in_use p n e) = zero_one (cc)
       go (WeightsAdded.not_weights c n e) = zero_one (cc)
       go (WeightsAdded.above_top c k m e) = zero_one (cc)
@@ -223,14 +223,14 @@ module _ (w : List ℕ) (u v : ℕ) where
     where
       go : (o : Option Refusal) (x : Bool) (y : Option (List ℕ)) → at_entry true w u [] ≡ o → ltb v u ≡ x → digits_of_weight (tree_at w v) ≡ y
           → Weighs w u v (unless o weighed.Refused (cond x (weigh y) (weighed.Refused Node)))
-      go (some e) x y p q r = Weighs.at_entry_lem (entry_lacks true w u [] p)
+      go (some e) x y p q r = Weighs.of_entry (entry_lacks true w u [] p)
       go none false y p q r = Weighs.not_in_use p (ltb-false v u q)
       go none true none p q r = Weighs.not_weight p (ltb-true v u q) ((no_weight (tree_at w v)).0 r)
       go none true (some l) p q r = Weighs.weighs p (ltb-true v u q) (digits_weight (tree_at w v) r)
 
   pub grams_gives : {a : Weighed} → Weighs w u v a → grams w u v ≡ a
   unfolding grams weigh
-  grams_gives (Weighs.at_entry_lem l) = rw (lacks_entry l)
+  grams_gives (Weighs.of_entry l) = rw (lacks_entry l)
   grams_gives (Weighs.not_in_use p h) = rw (p, le-ltb v u h)
   grams_gives (Weighs.not_weight p h n) = rw (p, lt-ltb v u h, (no_weight (tree_at w v)).1 n)
   grams_gives (Weighs.weighs p h i) = rw (p, lt-ltb v u h, weight_digits i, i.grams)
@@ -243,7 +243,7 @@ module _ (w : List ℕ) (u v : ℕ) where
   grams_weight {g} e = go ((grams_exactly (weighed.Grams g)).0 e) refl
     where
       go : {a : Weighed} → Weighs w u v a → a ≡ weighed.Grams g → (at_entry true w u [] ≡ none) × (v < u) × IsWeight (tree_at w v) g
-      go (Weighs.at_entry_lem l) q = zero_one (cc)
+      go (Weighs.of_entry l) q = zero_one (cc)
       go (Weighs.not_in_use p h) q = zero_one (cc)
       go (Weighs.not_weight p h n) q = zero_one (cc)
       go (Weighs.weighs p h {g = k} i) q = let y : k ≡ g = cc in (p, h, rw y at i)
@@ -269,7 +269,7 @@ module _ (w : List ℕ) (u a b : ℕ) where
 
   compare_gives : {o : Ordered} → Compares w u a b o → compare_weights w u a b ≡ o
   unfolding compare_weights
-  compare_gives (Compares.at_entry_lem l) = rw (lacks_entry l)
+  compare_gives (Compares.of_entry l) = rw (lacks_entry l)
   compare_gives (Compares.not_in_use p n) = rw (p, out_of_use n)
   compare_gives (Compares.not_weights c n) = compare_none c (λ g h i j. n g h (record { one = i; two = j }))
   compare_gives (Compares.less c r k) = compare_order c r ∙ order_less k
@@ -289,7 +289,7 @@ module _ (w : List ℕ) (u a b : ℕ) where
       weights c (are_not n) = (ordered.Refused Weight, Compares.not_weights c (λ g h r. n g h r.one r.two))
 
       go : (o : Option Refusal) (x y : Bool) → at_entry true w u [] ≡ o → ltb a u ≡ x → ltb b u ≡ y → (o : Ordered) × Compares w u a b o
-      go (some e) x y p q r = (ordered.Refused e, Compares.at_entry_lem (entry_lacks true w u [] p))
+      go (some e) x y p q r = (ordered.Refused e, Compares.of_entry (entry_lacks true w u [] p))
       go none false y p q r = (ordered.Refused Node, Compares.not_in_use p (λ h k. omega (arith, ltb-false a u q)))
       go none true false p q r = (ordered.Refused Node, Compares.not_in_use p (λ h k. omega (arith, ltb-false b u r)))
       go none true true p q r = weights (record { entered = p; first_in = ltb-true a u q; second_in = ltb-true b u r }) (both (tree_at w a) (tree_at w b))

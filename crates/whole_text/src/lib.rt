@@ -1,19 +1,21 @@
 // The test for a whole text: its digits first to last, with the number of trees still wanted. The definitions and the laws of that number are in the
 // crate `ternary`; specs/ says what the code's own values mean in their terms. Assumes nothing.
+#![tactic(auto)]
+
 ghost use Rattle.std.specs.Prelude.{◌≡◌, ◌≤◌, ◌<◌, length};
 ghost use Rattle.std.proofs.Math.Option.{some};
 ghost use Rattle.ternary.specs.Wanted.{wanted_after};
 ghost use Rattle.whole_text.specs.Code.{wanted_of, ScanSays};
 
 // The number of trees still wanted after a digit, or that no text with this beginning is whole.
-#[derive(Drop)]
+#[derive(Clone, Copy)]
 enum Wanted {
     Trees(usize),
     Broken,
 }
 
 // What a scan of a text finds: one whole tree, with the most trees pending, or none.
-#[derive(Drop)]
+#[derive(Clone, Copy)]
 pub enum Scanned {
     Whole(usize),
     Broken,

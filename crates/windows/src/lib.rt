@@ -1,5 +1,7 @@
 // Opening windows in code: the packet at a minute of the week, and the minutes until the next window begins; 13 before all else. The definitions and their
 // theorems are in the crate `week`.
+#![tactic(auto)]
+
 ghost use Rattle.std.specs.Prelude.{◌≡◌};
 ghost use Rattle.table.specs.Refusal.{given_by};
 ghost use Rattle.week.specs.Weeks.{packet_at, window_at, next_window};

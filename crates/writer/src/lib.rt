@@ -1,5 +1,7 @@
 // A node's tree written as ternary text: its digits one after another, the pass that measures, the pass that writes, and Write. The definitions and
 // the laws that callers cite are in the crate `ternary`; specs/ says what the code's own values mean in their terms.
+#![tactic(auto)]
+
 ghost use Rattle.std.specs.Prelude.{◌≡◌, List, ◌++◌, ◌*◌, ◌≤◌, ◌<◌, length, drop};
 ghost use Rattle.calculus.specs.Tree.{Tree};
 ghost use Rattle.table.specs.Nodes.{Sound, tree_at};
@@ -14,7 +16,7 @@ use ternary::Written;
 
 // A place in a tree that is written digit by digit: the node that comes next, the forks whose second branch is not begun, each with that
 // branch's node in a frame, and the out bytes left.
-#[derive(Drop)]
+#[derive(Clone, Copy)]
 struct Walk {
     at: usize,
     held: usize,
@@ -22,7 +24,7 @@ struct Walk {
 }
 
 // What comes after a digit, or why there is none.
-#[derive(Drop)]
+#[derive(Clone, Copy)]
 enum Then {
     More,
     End,
@@ -31,7 +33,7 @@ enum Then {
 }
 
 // A digit, and the place after it.
-#[derive(Drop)]
+#[derive(Clone, Copy)]
 struct Digit {
     value: u8,
     then: Then,
@@ -126,7 +128,7 @@ fn next_digit(table: &[u32], used: usize, stack: &mut [u32], walk: Walk) -> Digi
 }
 
 // Whether a text fits: the out bytes left after it, or the refusal at the first digit that lacks something.
-#[derive(Drop)]
+#[derive(Clone, Copy)]
 enum Fit {
     Left(usize),
     Lacks(Refusal),

@@ -2,12 +2,8 @@
 use mathlib.Core.Path.{refl}
 use Rattle.short_codes.specs.Values.{value_after, values_from, values_to, values, each_same, is_values}
 use Rattle.short_codes.proofs.Holding.{tested_holds}
-use Rattle.code_values.proofs.all_values.Statement.{statement}
-use Rattle.code_values.proofs.all_values.Tie as tie
+use Rattle.code_values.proofs.all_values.Goals as goal
 
-returns : tie.Need-returns
+pub returns : goal.returns
 unfolding is_values each_same values values_to values_from value_after
 returns c = tested_holds _ refl
-
-pub all_values_spec : {M : Type 1} → statement M
-all_values_spec = tie.close (tie.spec returns)

@@ -1,0 +1,16 @@
+-- `index::search` meets its contract. Both loops keep what the entries from the home on up to `at` say: none is empty and none is the node. Assumes nothing.
+use Prim.Native.Nat.{◌+◌, ◌-◌, ◌≤◌}
+use Rattle.index.proofs.Indexing.{Passed}
+use Rattle.index.proofs.search.Given as goal
+
+abbrev pub invariant-loop-at : goal.invariant-loop-at
+invariant-loop-at l = (l.initial.at ≤ l.at) × (l.at ≤ l.end) × Passed l.table l.used l.slots l.index l.a l.b l.at
+
+abbrev pub decreases-loop-at : goal.decreases-loop-at
+decreases-loop-at l = l.end - l.at
+
+abbrev pub invariant-blocks-2 : goal.invariant-blocks-2
+invariant-blocks-2 l = Passed l.table l.used l.slots l.index l.a l.b l.at
+
+abbrev pub decreases-blocks-2 : goal.decreases-blocks-2
+decreases-blocks-2 l = l.slots + l.used - l.at

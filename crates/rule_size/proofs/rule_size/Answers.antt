@@ -1,0 +1,21 @@
+-- `rule_size::rule_size` meets its contract: a whole term that begins with an abstraction counts the nodes of its tree. Assumes nothing.
+use Rattle.rule_size.proofs.Weights.{too_long, empty, other_first, not-whole, is_rule}
+use Rattle.rule_size.proofs.rule_size.Goals as goal
+
+pub returns-then-n-gt4096 : goal.returns-then-n-gt4096
+returns-then-n-gt4096 c = too_long _ c.if-n-gt4096.true
+
+pub returns-then-n-eq0 : goal.returns-then-n-eq0
+returns-then-n-eq0 c = empty _ c.if-n-eq0.true
+
+pub returns-then-bytes-ne2 : goal.returns-then-bytes-ne2
+returns-then-bytes-ne2 c = other_first _ c.if-bytes-ne2.true
+
+pub returns-then-t-n : goal.returns-then-t-n
+returns-then-t-n c =
+    let c₁ = c in
+    let c₂ = c₁ in
+    is_rule _ _ c₁.if-n-eq0.false c.measure-t.ensures c₂.if-n-gt4096.false c₁.if-bytes-ne2.false c.if-t-n.true
+
+pub returns : goal.returns
+returns c = not-whole _ _ c.if-n-eq0.false c.measure-t.ensures c.if-t-n.false
