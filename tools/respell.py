@@ -18,6 +18,7 @@ EXCEPT = {
     "leaf-there": "leaf_there_lem",
     "uses-next": "uses_next_lem",
     "is-none": "is_none_lem",
+    "laid-within": "laid_within_lem",
     "isKK": "is_kk",
     "isKOf": "is_k_of",
     "labelStages": "labelling_stages",
@@ -33,7 +34,7 @@ IN_FILES = [
     ("is_leaf", "is_leaf_lem", ["labelled/proofs/Forms.antt"]),
 ]
 HEAD = re.compile(r"^(\s*)((?:(?:pub|abbrev|unfoldable|data|record|opaque)\s+)*)([^\s:{}()\[\];,\"]+)\s*(?:\{[^}]*\}\s*)*:\s")
-GOAL = re.compile(r":\s*(?:\(t : ℕ\) → )?\s*(?:[\w-]+\.)?(?:Need-|invariant-|decreases-)")
+GOAL = re.compile(r":\s*(?:\(t : ℕ\) → )?\s*(?:[\w-]+\.)?(?:Need-|invariant-|decreases-)|: goal\.")
 
 
 def walk(root, ends):
@@ -80,7 +81,7 @@ def declared(root):
             if not m or not odd(m.group(3)) or m.group(3) in goals:
                 continue
             indent = len(m.group(1))
-            if indent == 0 or (indent == 2 and kind != "own proof") or (indent == 2 and "pub" in m.group(2)):
+            if indent == 0 or kind != "own proof" or (indent == 2 and "pub" in m.group(2)):
                 found[m.group(3)].add(kind)
     for p in walk(os.path.join(root, "crates"), (".rt",)):
         with open(p, encoding="utf-8") as f:

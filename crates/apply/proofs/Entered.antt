@@ -14,7 +14,7 @@ use Rattle.table.proofs.Entry.{entered, check_refuses}
 use Rattle.checks.specs.Code.{refusal_of}
 use Rattle.checks.specs.declared.Checked.{Checked}
 use Rattle.checks.specs.declared.Checked.TheVariants as check
-use Rattle.checks.proofs.Entry.{too_long, not_within, long-stack}
+use Rattle.checks.proofs.Entry.{too_long, not_within, long_stack}
 use Rattle.applying.specs.declared.Applied.{Applied}
 use Rattle.applying.specs.declared.Applied.TheVariants.{Refused}
 use Rattle.applying.specs.declared.Ended.{Ended}
@@ -35,7 +35,7 @@ module _ (w : List ℕ) (u : ℕ) (s : List ℕ) (f n limit : ℕ) where
   over_limit h = limits (not_within (leb limit 1000000) w u s (lt-leb limit 1000000 h))
 
   pub long_frames : length w ≤ 131072 → limit ≤ 1000000 → 65536 < length s → whole (Refused Limits) w s ≡ apply w u s f n limit
-  long_frames k l h = limits (long-stack (leb limit 1000000) w u s (le-leb limit 1000000 l) k h)
+  long_frames k l h = limits (long_stack (leb limit 1000000) w u s (le-leb limit 1000000 l) k h)
 
 -- the code's check refuses, or lets pass
 module _ (w : List ℕ) (u : ℕ) (s : List ℕ) (f n limit : ℕ) {x : Checked} (p : refusal_of x ≡ at_entry (leb limit 1000000) w u s) where
@@ -56,9 +56,9 @@ module _ (w : List ℕ) (u : ℕ) (s : List ℕ) (f n limit : ℕ) (p : at_entry
   refuse_function h = rw (p, le-ltb f u h)
 
   module _ (function_in : f < u) where
-    pub refuse-argument : u ≤ n → whole (Refused refusal.Node) w s ≡ apply w u s f n limit
+    pub refuse_argument : u ≤ n → whole (Refused refusal.Node) w s ≡ apply w u s f n limit
     unfolding apply
-    refuse-argument h = rw (p, lt-ltb f u function_in, le-ltb n u h)
+    refuse_argument h = rw (p, lt-ltb f u function_in, le-ltb n u h)
 
-    pub by-nodes : n < u → {a : Ended} {b : Applied} {z y : List ℕ} → whole a z y ≡ apply_ended w u s f n limit → b ≡ applied_of a → whole b z y ≡ apply w u s f n limit
-    by-nodes argument_in e q = rw q (ap (answered applied_of) e ∙ apply_told limit (entered (leb limit 1000000) w u s p) function_in argument_in)
+    pub by_nodes : n < u → {a : Ended} {b : Applied} {z y : List ℕ} → whole a z y ≡ apply_ended w u s f n limit → b ≡ applied_of a → whole b z y ≡ apply w u s f n limit
+    by_nodes argument_in e q = rw q (ap (answered applied_of) e ∙ apply_told limit (entered (leb limit 1000000) w u s p) function_in argument_in)

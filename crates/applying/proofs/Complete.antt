@@ -26,7 +26,7 @@ use Rattle.applying.specs.Lacks.{Lacks, no_place, all_held}
 use Rattle.applying.specs.States.{Good}
 use Rattle.applying.specs.Claims.{Gives}
 use Rattle.applying.proofs.States.{table_of, Later, turn_later, one_use, uses_next, Took, turn_took, one_step}
-use Rattle.applying.proofs.Leads.{Leads, TurnLeads, leads_same, leads-after, uses_some, and_then}
+use Rattle.applying.proofs.Leads.{Leads, TurnLeads, leads_same, leads_after, uses_some, and_then}
 use Rattle.applying.proofs.Cases.{Ways, refused, ran, ways, checks_keep, good_begin}
 use Rattle.applying.proofs.Stops.{stop_lacks}
 
@@ -41,7 +41,7 @@ unfolding uses after
 uses_end zero g o k x h = absurd (omega (arith, ap steps x.counted, uses_some x.applies))
 uses_end (suc m) {all} {s} g o k x h =
     let l = turn_later g in
-    let i = leads-after g l.fine (kept_refl _) o k (leads_same g l.extends.kept o k x) in
+    let i = leads_after g l.fine (kept_refl _) o k (leads_same g l.extends.kept o k x) in
     go (turn all s) l (turn_took all s) i.0 i.1 i.2
     (λ (z : State) (y : Good all z) (d : Leads z.table.words z o i.0). uses_end m y o i.0 d (omega (arith, ap steps i.2, one_step (wanted s))))
   where

@@ -24,7 +24,7 @@ use Rattle.applying.specs.Apply.{applied_numbers, applied_uses, settle, begin, a
 use Rattle.applying.specs.States.{Good}
 pub use Rattle.applying.specs.Claims.{Follows}
 use Rattle.applying.proofs.States.{table_of, Later, turn_later, uses_later, one_use, uses_next, Took, turn_took, Counted, uses_steps, New, uses_new}
-use Rattle.applying.proofs.Leads.{Leads, TurnLeads, leads-before}
+use Rattle.applying.proofs.Leads.{Leads, TurnLeads, leads_before}
 use Rattle.applying.proofs.Cases.{Ways, refused, ran, ways, good_begin}
 
 -- A run that comes to the node of p and the uses j leads there from s, by the rules; trees are read in the last table.
@@ -49,7 +49,7 @@ uses_follow (suc k) {all} {s} g p j e =
     let l : Later all s.table (done p j) = subst (Later all s.table) e (uses_later (suc k) g) in
     record {
       taken = one_use (wanted s) ⊕ a.left;
-      leads = leads-before g l.fine a.kept _ a.left a.leads;
+      leads = leads_before g l.fine a.kept _ a.left a.leads;
       counted = a.counted ∙ uses_assoc s.uses (one_use (wanted s)) a.left;
     }
   where

@@ -264,10 +264,10 @@ module _ {all : ℕ} {s : State} (g : Good all s) {y : Table} (fine : Sound y) (
 
   module _ (o : Tree) (k : Uses) where
     -- Where the turn leads to o with the uses k, the state before it does with these and the use of its rule, and the other way round.
-    pub leads-before : TurnLeads y.words o k ⊥ (turn all s) → Leads y.words s o (one_use (wanted s) ⊕ k)
-    leads-before = goes_before Then (Comes o) (λ f n P k. before_use f k) k
+    pub leads_before : TurnLeads y.words o k ⊥ (turn all s) → Leads y.words s o (one_use (wanted s) ⊕ k)
+    leads_before = goes_before Then (Comes o) (λ f n P k. before_use f k) k
 
-    pub leads-after : Leads y.words s o k → (j : Uses) × TurnLeads y.words o j (Unit {0}) (turn all s) × (k ≡ one_use (wanted s) ⊕ j)
-    leads-after x =
+    pub leads_after : Leads y.words s o k → (j : Uses) × TurnLeads y.words o j (Unit {0}) (turn all s) × (k ≡ one_use (wanted s) ⊕ j)
+    leads_after x =
         let i = first_use_lem x in
         (i.0, said Then (Comes o) y.words i.0 (turn all s) (λ e. tt) (transport⁻¹ (turn_leads Then (Comes o) g fine since i.0 kept) i.1), rw first_is at i.2)

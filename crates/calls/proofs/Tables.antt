@@ -16,7 +16,7 @@ use Rattle.table.proofs.Making.{stays}
 use Rattle.ternary.specs.Read as ternary
 use Rattle.ternary.proofs.Reading.{read_gives, read_refused}
 use Rattle.translation.specs.Translate as translation
-use Rattle.translation.proofs.Translates.{translate_gives, translate-refused}
+use Rattle.translation.proofs.Translates.{translate_gives, translate_refused}
 use Rattle.applying.specs.Apply as applying
 use Rattle.applying.specs.declared.Applied.{Applied as Answer}
 use Rattle.applying.specs.declared.Applied.TheVariants as applied
@@ -79,7 +79,7 @@ left_goes (translate s b) t = go (translation.translate t.words t.used s b).answ
   where
     go : (a : Made) → (translation.translate t.words t.used s b).answer ≡ a → Goes t (record { words = (translation.translate t.words t.used s b).table; used = (made_numbers t.used a).used })
     go (made.Node v u) e = placed_goes (translate_gives t.words t.used s b v u e).lays.places
-    go (made.Refused r) e = refused_goes (translate-refused t.words t.used s b r e)
+    go (made.Refused r) e = refused_goes (translate_refused t.words t.used s b r e)
 left_goes (apply s f n limit) t = go (applying.apply t.words t.used s f n limit).answer refl
   where
     go : (a : Answer) → (applying.apply t.words t.used s f n limit).answer ≡ a

@@ -35,13 +35,13 @@ module _ (within : Bool) (w : List ℕ) (u : ℕ) (s : List ℕ) where
       go false = refl
 
   module _ (o : within ≡ true) (a : length w ≤ 131072) where
-    pub stack-unfit : 65536 < length s → (within && fits w u s) ≡ false
+    pub stack_unfit : 65536 < length s → (within && fits w u s) ≡ false
     unfolding fits
-    stack-unfit h = rw (o, le-leb (length w) 131072 a, lt-leb (length s) 65536 h)
+    stack_unfit h = rw (o, le-leb (length w) 131072 a, lt-leb (length s) 65536 h)
 
-    pub used-fits : length s ≤ 65536 → leb u (length w / 2) ≡ (within && fits w u s)
+    pub used_fits : length s ≤ 65536 → leb u (length w / 2) ≡ (within && fits w u s)
     unfolding fits
-    used-fits b = rw (o, le-leb (length w) 131072 a, le-leb (length s) 65536 b)
+    used_fits b = rw (o, le-leb (length w) 131072 a, le-leb (length s) 65536 b)
 
   -- 1 is met, by any of them
   pub unfit : (within && fits w u s) ≡ false → some Limits ≡ at_entry within w u s
@@ -56,27 +56,27 @@ module _ (within : Bool) (w : List ℕ) (u : ℕ) (s : List ℕ) where
   too_long h = unfit (table_unfit h)
 
   module _ (o : within ≡ true) (a : length w ≤ 131072) where
-    pub long-stack : 65536 < length s → some Limits ≡ at_entry within w u s
-    long-stack h = unfit (stack-unfit o a h)
+    pub long_stack : 65536 < length s → some Limits ≡ at_entry within w u s
+    long_stack h = unfit (stack_unfit o a h)
 
-    pub over-used : length s ≤ 65536 → length w / 2 < u → some Limits ≡ at_entry within w u s
-    over-used b h = unfit (sym (used-fits o a b) ∙ lt-leb u (length w / 2) h)
+    pub over_used : length s ≤ 65536 → length w / 2 < u → some Limits ≡ at_entry within w u s
+    over_used b h = unfit (sym (used_fits o a b) ∙ lt-leb u (length w / 2) h)
 
   -- what the code finds of 1 and then of the nodes
   module _ {f : Bool} (e : f ≡ (within && fits w u s)) where
-    pub refused-unfit : not f ≡ true → some Limits ≡ at_entry within w u s
-    refused-unfit n = unfit (sym e ∙ not-true f n)
+    pub refused_unfit : not f ≡ true → some Limits ≡ at_entry within w u s
+    refused_unfit n = unfit (sym e ∙ not-true f n)
 
     module _ (n : not f ≡ false) where
       fit : (within && fits w u s) ≡ true
       fit = sym e ∙ not-false f n
 
-      pub may-fill : (length w ≤ 131072) × (u ≤ capacity w)
+      pub may_fill : (length w ≤ 131072) × (u ≤ capacity w)
       unfolding fits
-      may-fill =
+      may_fill =
           let g = and_right within (fits w u s) fit in
           (leb-true (length w) 131072 (and_left (leb (length w) 131072) _ g), leb-true u (capacity w) (and_right (leb (length s) 65536) _ (and_right (leb (length w) 131072) _ g)))
 
-      pub by-nodes : {x y : Bool} → x ≡ sound w u → x ≡ y → cond y none (some Broken) ≡ at_entry within w u s
+      pub by_nodes : {x y : Bool} → x ≡ sound w u → x ≡ y → cond y none (some Broken) ≡ at_entry within w u s
       unfolding at_entry
-      by-nodes p q = rw (fit, ← p, q)
+      by_nodes p q = rw (fit, ← p, q)

@@ -61,10 +61,10 @@ module _ (s : List ℕ) (held : ℕ) where
 
     -- what the check says of a tree that is to be laid out in a table
     module _ (w : List ℕ) (u : ℕ) (x : Tree) where
-      pub refused-within : {c : Refusal} → r ≡ Refused c → whole (made.Refused c) w z ≡ laid_within w u s held x
-      refused-within q =
+      pub refused_within : {c : Refusal} → r ≡ Refused c → whole (made.Refused c) w z ≡ laid_within w u s held x
+      refused_within q =
           let f = no_room q in
           rw (f.is_frames, f.cleared_all) (frames_refused w u s held x f.few)
 
-      pub laid-within : r ≡ Passed → laid w u s x ≡ laid_within w u s held x
-      laid-within q = room_laid w u s held x (has_room q).frames_free
+      pub laid_within_lem : r ≡ Passed → laid w u s x ≡ laid_within w u s held x
+      laid_within_lem q = room_laid w u s held x (has_room q).frames_free

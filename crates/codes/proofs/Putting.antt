@@ -86,16 +86,16 @@ module _ {n w v i : ℕ} {out : List ℕ} (k : RoomFor n w v out i) (e : n ≡ 0
       record { room = omega (arith, lengths); ten_digits = rw z at (digit_bound n v 0 e (omega arith) k.ten_digits); few = omega (arith, k.few) }
 
   module _ {r : ℕ} {out' : List ℕ} (a : Wrote out i (leaves n w v) r out') (l : length out' ≡ length out) where
-    pub stems-ready : RoomFor (n - 1) w (v * 3 + 1) out' r
-    stems-ready = record { room = omega (arith, lengths, a.ends); ten_digits = digit_bound n v 1 e (omega arith) k.ten_digits; few = omega (arith, k.few) }
+    pub stems_ready : RoomFor (n - 1) w (v * 3 + 1) out' r
+    stems_ready = record { room = omega (arith, lengths, a.ends); ten_digits = digit_bound n v 1 e (omega arith) k.ten_digits; few = omega (arith, k.few) }
 
     module _ {q : ℕ} {out'' : List ℕ} (b : Wrote out' r (stems n w v) q out'') (m : length out'' ≡ length out') where
-      pub forks-ready : RoomFor (n - 1) (w + 1) (v * 3 + 2) out'' q
-      forks-ready =
+      pub forks_ready : RoomFor (n - 1) (w + 1) (v * 3 + 2) out'' q
+      forks_ready =
           record { room = omega (arith, lengths, a.ends, b.ends); ten_digits = digit_bound n v 2 e (omega arith) k.ten_digits; few = omega (arith, k.few) }
 
-      pub all-put : {p : ℕ} {out''' : List ℕ} → Wrote out'' q (forks n w v) p out''' → Wrote out i (values_from n w v) p out'''
-      all-put c = rw (blocks n w v e f) (wrote_then _ _ _ _ _ _ _ _ l a (wrote_then _ _ _ _ _ _ _ _ m b c))
+      pub all_put : {p : ℕ} {out''' : List ℕ} → Wrote out'' q (forks n w v) p out''' → Wrote out i (values_from n w v) p out'''
+      all_put c = rw (blocks n w v e f) (wrote_then _ _ _ _ _ _ _ _ l a (wrote_then _ _ _ _ _ _ _ _ m b c))
 
 -- the trees of at most n nodes: those of fewer, then those of n
 to_more : (n : ℕ) → (n ≡ 0 → ⊥) → values_to n ≡ values_to (n - 1) ++ values_from n 1 0
@@ -115,11 +115,11 @@ module _ (n : ℕ) (out : List ℕ) (e : n ≡ 0 → ⊥) (h : length (values_to
   fewer_asks = (omega (arith, lengths_to), omega arith)
 
   module _ {r : ℕ} {out' : List ℕ} (a : Wrote out 0 (values_to (n - 1)) r out') (l : length out' ≡ length out) where
-    pub trees-ready : RoomFor n 1 0 out' r
-    trees-ready = record { room = omega (arith, lengths_to, a.ends); ten_digits = padded_ten n few; few = omega arith }
+    pub trees_ready : RoomFor n 1 0 out' r
+    trees_ready = record { room = omega (arith, lengths_to, a.ends); ten_digits = padded_ten n few; few = omega arith }
 
-    pub trees-put : {q : ℕ} {out'' : List ℕ} → Wrote out' r (values_from n 1 0) q out'' → Wrote out 0 (values_to n) q out''
-    trees-put b = rw (to_more n e) (wrote_then _ _ _ _ _ _ _ _ l a b)
+    pub trees_put : {q : ℕ} {out'' : List ℕ} → Wrote out' r (values_from n 1 0) q out'' → Wrote out 0 (values_to n) q out''
+    trees_put b = rw (to_more n e) (wrote_then _ _ _ _ _ _ _ _ l a b)
 
 -- there are as many as the program has room for
 pub all_many : length (values_to 10) ≡ 1374

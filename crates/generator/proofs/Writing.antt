@@ -52,17 +52,17 @@ module _ {seed n : ℕ} {out₀ : List ℕ} {i s w : ℕ} {out : List ℕ} (x : 
     one_more : n - i ≡ suc (n - 1 - i)
     one_more = omega arith
 
-    pub digit-ends : can_end (n - 1 - i + 1) (some w) ≡ true
-    digit-ends = let k : n - i ≡ n - 1 - i + 1 = omega arith in rw k at x.ends
+    pub digit_ends : can_end (n - 1 - i + 1) (some w) ≡ true
+    digit_ends = let k : n - i ≡ n - 1 - i + 1 = omega arith in rw k at x.ends
 
-    pub wants-one : 1 ≤ w
-    wants-one = (wanted_between (n - 1 - i) w digit-ends).0
+    pub wants_one : 1 ≤ w
+    wants_one = (wanted_between (n - 1 - i) w digit_ends).0
 
-    digit-written : {b : ℕ} → Taken (n - 1 - i) w (drawn s) b → i < length out₀ → WritingLoad seed n out₀ (i + 1) (next_state s) (w - 1 + b) (set out i (48 + b))
+    digit_written : {b : ℕ} → Taken (n - 1 - i) w (drawn s) b → i < length out₀ → WritingLoad seed n out₀ (i + 1) (next_state s) (w - 1 + b) (set out i (48 + b))
     unfolding next_state digits_from digit_at
-    digit-written {b} t k =
+    digit_written {b} t k =
         let left = n - 1 - i in
-        let p = next_drawing_lem left s w b (λ q. omega (arith, wants-one)) t in
+        let p = next_drawing_lem left s w b (λ q. omega (arith, wants_one)) t in
         let q : n - (i + 1) ≡ left = omega arith in
         let r : digits_from (n - i) (drawing_of s w) ≡ (48 + b) ∷ digits_from left (drawing_of (next_state s) (w - 1 + b)) = rw (one_more, p, ← t.0) in
         let e = from_place out₀ i 0 k in
@@ -78,10 +78,10 @@ module _ {seed n : ℕ} {out₀ : List ℕ} {i s w : ℕ} {out : List ℕ} (x : 
         }
 
     -- the state s' after the draw, and the digit that is taken for what is drawn
-    pub writing-digit : {s' b : ℕ} → s' ≡ next_state s → Taken (n - 1 - i) w (s' / 65536) b → i < length out₀ → WritingLoad seed n out₀ (i + 1) s' (w - 1 + b) (set out i (48 + b))
+    pub writing_digit : {s' b : ℕ} → s' ≡ next_state s → Taken (n - 1 - i) w (s' / 65536) b → i < length out₀ → WritingLoad seed n out₀ (i + 1) s' (w - 1 + b) (set out i (48 + b))
     unfolding drawn
-    writing-digit {s'} {b} e t k =
-        subst (λ (z : ℕ). WritingLoad seed n out₀ (i + 1) z (w - 1 + b) (set out i (48 + b))) (sym e) (digit-written (subst (λ (z : ℕ). Taken (n - 1 - i) w (z / 65536) b) e t) k)
+    writing_digit {s'} {b} e t k =
+        subst (λ (z : ℕ). WritingLoad seed n out₀ (i + 1) z (w - 1 + b) (set out i (48 + b))) (sym e) (digit_written (subst (λ (z : ℕ). Taken (n - 1 - i) w (z / 65536) b) e t) k)
 
   pub writing_length : n ≤ length out₀ → length out ≡ length out₀
   writing_length h = ap length x.bytes ∙ length-append x.digits (drop i out₀) ∙ omega (arith, x.many, x.inside, length-drop i out₀)

@@ -166,12 +166,12 @@ read (a_name {b = b} {m = m} {x = x} {l = l} q h s) =
     let g = read s in
     record {
       words = name_number 0 (b ∷ x) ∷ g.words;
-      found = run_lex 0 0 q (omega arith) ∙ rw (name-step (length x)) (after_name (length x) (name_number 0 (b ∷ x)) l (run_ends q) ∙ ap (flush (suc (length x)) (name_number 0 (b ∷ x))) g.found);
+      found = run_lex 0 0 q (omega arith) ∙ rw (name_step (length x)) (after_name (length x) (name_number 0 (b ∷ x)) l (run_ends q) ∙ ap (flush (suc (length x)) (name_number 0 (b ∷ x))) g.found);
       tells = rw (name_token m l b x q, g.tells);
     }
   where
-    name-step : (n : ℕ) → 0 + suc n ≡ suc n
-    name-step n = omega arith
+    name_step : (n : ℕ) → 0 + suc n ≡ suc n
+    name_step n = omega arith
 
 -- SOUND: what is read spells
 abbrev Good : ℕ → ℕ → List ℕ → Option (List ℕ) → Type 0
@@ -206,10 +206,10 @@ unfolding flush name_number
 good_flush zero w l n h none g = tt
 good_flush zero w l n h (some ws) g = g
 good_flush (suc k) w l n h none g = tt
-good_flush (suc k) w l n h (some ws) g = ([], l, ws, no_more n, omega arith, number-none, g)
+good_flush (suc k) w l n h (some ws) g = ([], l, ws, no_more n, omega arith, number_none, g)
   where
-    number-none : (w ∷ ws) ≡ name_number w [] ∷ ws
-    number-none = refl
+    number_none : (w ∷ ws) ≡ name_number w [] ∷ ws
+    number_none = refl
 
 good_letter : (k w b : ℕ) (l : List ℕ) → Letter b → (o : Option (List ℕ)) → Good (suc k) (w * 256 + b) l o → (k ≡ 0 → w ≡ 0) → Good k w (b ∷ l) o
 unfolding name_number tokens
@@ -229,10 +229,10 @@ good k w (b ∷ l) h z = go (λ i v p q. good i v l p q) (letter b) refl
     deep : ((i v : ℕ) → i ≤ 8 → (i ≡ 0 → v ≡ 0) → Good i v l (lex i v l)) → (y : Bool) → ltb k 8 ≡ y → Letter b
         → Good k w (b ∷ l) (cond y (lex (suc k) (w * 256 + b) l) none)
     deep f true e t = good_letter k w b l t (lex (suc k) (w * 256 + b) l) (f (suc k) (w * 256 + b) (ltb-true k 8 e) (λ p. absurd (omega arith))) z
-    deep f false e t = none-good k
+    deep f false e t = none_good k
       where
-        none-good : (i : ℕ) → Good i w (b ∷ l) none
-        none-good i = tt
+        none_good : (i : ℕ) → Good i w (b ∷ l) none
+        none_good i = tt
 
     go : ((i v : ℕ) → i ≤ 8 → (i ≡ 0 → v ≡ 0) → Good i v l (lex i v l)) → (y : Bool) → letter b ≡ y
         → Good k w (b ∷ l) (cond y (cond (ltb k 8) (lex (suc k) (w * 256 + b) l) none) (flush k w (separate b (lex 0 0 l))))

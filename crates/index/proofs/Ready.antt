@@ -38,13 +38,13 @@ ready_none h x =
 -- what came of wanting a node, by the answer's case
 module _ {r : Got} {w : List ℕ} where
   module _ {x : Making} (e : got_by r w ≡ x) where
-    pub node-got : {n u : ℕ} → r ≡ Node n u → x ≡ got (record { table = record { words = w; used = u }; node = n })
+    pub node_got : {n u : ℕ} → r ≡ Node n u → x ≡ got (record { table = record { words = w; used = u }; node = n })
     unfolding got_by
-    node-got q = sym e ∙ ap (λ (y : Got). got_by y w) q
+    node_got q = sym e ∙ ap (λ (y : Got). got_by y w) q
 
-    pub full-got : r ≡ Full → x ≡ full (record { words = w; used = capacity w })
+    pub full_got : r ≡ Full → x ≡ full (record { words = w; used = capacity w })
     unfolding got_by
-    full-got q = sym e ∙ ap (λ (y : Got). got_by y w) q
+    full_got q = sym e ∙ ap (λ (y : Got). got_by y w) q
 
   pub node_ready : {s : ℕ} {ix : List ℕ} → ReadyGot r w s ix → {n u : ℕ} → r ≡ Node n u → Ready w u s ix
   unfolding ReadyGot

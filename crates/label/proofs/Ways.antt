@@ -11,7 +11,7 @@ use Rattle.table.proofs.Making.{stem_words, fork_words, make_places, and_got, th
 use Rattle.index.specs.Code.{got_by, ReadyGot, ReadyMade}
 use Rattle.index.specs.declared.Got.{Got}
 use Rattle.index.specs.declared.Got.TheVariants.{Node, Full}
-use Rattle.index.proofs.Ready.{node-got, full-got, settled_ready}
+use Rattle.index.proofs.Ready.{node_got, full_got, settled_ready}
 use Rattle.labelled.specs.Label.{nodes, label_rule}
 use Rattle.label.specs.Code.{constant_nodes, spread_nodes, rule_nodes, whole_nodes}
 
@@ -52,11 +52,11 @@ rule_stands {t} s leaf f h k e =
 module _ (r : Got) (w : List ℕ) (x : Making) (next : Placed → Making) (e : got_by r w ≡ x) where
   pub no_place : r ≡ Full → (s : ℕ) (ix : List ℕ) → (got_by Full w ≡ and_then x next) × ReadyGot Full w s ix
   unfolding got_by ReadyGot
-  no_place q s ix = (sym (then_full next (full-got e q)), tt)
+  no_place q s ix = (sym (then_full next (full_got e q)), tt)
 
   pub goes_on : {n u : ℕ} → r ≡ Node n u → (g : Got) (z : List ℕ) {P : Type 0}
       → (got_by g z ≡ next (record { table = record { words = w; used = u }; node = n })) × P → (got_by g z ≡ and_then x next) × P
-  goes_on q g z f = (f.0 ∙ sym (then_got next (node-got e q)), f.1)
+  goes_on q g z f = (f.0 ∙ sym (then_got next (node_got e q)), f.1)
 
 -- the parts are Label's nodes
 same_next : (x : Making) {f g : Placed → Making} → ((m : Placed) → f m ≡ g m) → and_then x f ≡ and_then x g

@@ -15,7 +15,7 @@ use Rattle.table.proofs.Entry.{check_refuses}
 use Rattle.checks.specs.declared.Checked.{Checked}
 use Rattle.checks.specs.declared.Checked.TheVariants as checked
 use Rattle.checks.specs.Code.{refusal_of}
-use Rattle.checks.proofs.Entry.{too_long, over-used}
+use Rattle.checks.proofs.Entry.{too_long, over_used}
 use Rattle.labelled.specs.Label.{label}
 
 -- the checks of both numbers, where neither 1 nor 2 is met
@@ -38,7 +38,7 @@ module _ (w : List ℕ) (u f t : ℕ) where
   long_table h = limits (too_long true w u [] h)
 
   pub used_above : length w ≤ 131072 → length w / 2 < u → whole (Refused Limits) w [] ≡ label w u f t
-  used_above k h = limits (over-used true w u [] refl k (omega arith) h)
+  used_above k h = limits (over_used true w u [] refl k (omega arith) h)
 
 -- what the checks at entry say to Label
 module _ (w : List ℕ) (u : ℕ) {k : Checked} (q : refusal_of k ≡ at_entry true w u []) where

@@ -13,7 +13,7 @@ use Rattle.labelled.specs.Label.{label}
 use Rattle.labelled.specs.Unlabel.{unlabel}
 use Rattle.labelled.specs.declared.Unlabelled.TheVariants.{Parts}
 use Rattle.labelled.proofs.Labels.{label_gives}
-use Rattle.labelled.proofs.Unlabels.{unlabel_gives, unlabel-takes}
+use Rattle.labelled.proofs.Unlabels.{unlabel_gives, unlabel_takes}
 
 -- "gives the nodes of label and rule out of a labelled tree" ([1]): out of the tree that Label made, the two that it was given, since no others have their
 -- trees
@@ -23,7 +23,7 @@ unlabel_label w u f t v u' q =
     let p = g.places in
     let s = (entered true w u [] g.entered).table in
     let x = (label w u f t).table in
-    let a = unlabel-takes x u' v (enters (record { table = p.fine; stack = omega arith; limits_kept = refl })) p.inside (tree_at w f) (tree_at w t) p.tree in
+    let a = unlabel_takes x u' v (enters (record { table = p.fine; stack = omega arith; limits_kept = refl })) p.inside (tree_at w f) (tree_at w t) p.tree in
     let i = unlabel_gives x u' v a.answer in
     let up = p.extends.kept.up in
     let f-is = (one_number p.fine a.rule f i.rule_in (omega (arith, g.rule_in))).1 (a.rule_tree_lem ∙ sym (kept_tree s p.extends.kept f g.rule_in)) in

@@ -186,9 +186,9 @@ module _ (w : List ℕ) (u f t : ℕ) where
       x : Tree
       x = labelled (tree_at w f) (tree_at w t)
 
-      placed-is : {m : Placed} → m.node ≡ v → m.table.used ≡ u' → m.table.words ≡ (label w u f t).table
+      placed_is : {m : Placed} → m.node ≡ v → m.table.used ≡ u' → m.table.words ≡ (label w u f t).table
           → m ≡ record { table = record { words = (label w u f t).table; used = u' }; node = v }
-      placed-is a b c = rw (← a, ← b, ← c)
+      placed_is a b c = rw (← a, ← b, ← c)
 
       go : Case w u f t (label w u f t) → Labels w u f t v u'
       go (refuses k r) = zero_one (cc)
@@ -205,7 +205,7 @@ module _ (w : List ℕ) (u f t : ℕ) where
                 subst (λ (i : ℕ). Places z (record { table = record { words = (label w u f t).table; used = u' }; node = i }) x) a
                 (subst (λ (i : ℕ). Places z (record { table = record { words = (label w u f t).table; used = i }; node = m.node }) x) b
                 (subst (λ (i : List ℕ). Places z (record { table = record { words = i; used = m.table.used }; node = m.node }) x) c n.0));
-            nodes_are = e ∙ ap got (placed-is a b c);
+            nodes_are = e ∙ ap got (placed_is a b c);
             used_most = omega (arith, n.1);
           }
 

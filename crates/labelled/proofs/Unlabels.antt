@@ -113,15 +113,15 @@ module _ (w : List ℕ) (u v : ℕ) where
 
   module _ (p : at_entry true w u [] ≡ none) (h : v < u) where
     -- "The office reader of [1] expects this form" ([4])
-    pub unlabel-takes : (f t : Tree) → tree_at w v ≡ labelled f t → TakenApart w u v f t
-    unlabel-takes f t e =
+    pub unlabel_takes : (f t : Tree) → tree_at w v ≡ labelled f t → TakenApart w u v f t
+    unlabel_takes f t e =
         let a = found_parts (record { entered = p; inside = h; tree = record { rule = f; label = t; form = e } }) in
         let o = (unlabel_gives a).only f t e in
         record { rule = _; label = _; answer = a; rule_tree_lem = o.0; label_tree = o.1 }
 
     -- "trees labelled earlier" ([4]): 11 comes for such a tree exactly where its label is not itself a K of something.
-    pub unlabel-earlier : (f t : Tree) → tree_at w v ≡ labelled_earlier f t → (unlabel w u v ≡ Refused Label) ↔ (IsKOf t → ⊥)
-    unlabel-earlier f t e =
+    pub unlabel_earlier : (f t : Tree) → tree_at w v ≡ labelled_earlier f t → (unlabel w u v ≡ Refused Label) ↔ (IsKOf t → ⊥)
+    unlabel_earlier f t e =
         (λ q k. go ((unlabel_lacks Label).0 q) (rw e ((earlier_exact f t).1 k)), λ n. stops (not_labelled p h (λ i. n ((earlier_exact f t).0 (rw e at i)))))
       where
         go : UnlabelLacks w u v Label → IsLabelled (tree_at w v) → ⊥
@@ -129,5 +129,5 @@ module _ (w : List ℕ) (u v : ℕ) where
         go (of_entry l) i = zero_one (cc (p, lacks_entry l))
 
     -- Where it is the K of x, x is taken for the label.
-    pub unlabel-earlier-k : (f x : Tree) → tree_at w v ≡ labelled_earlier f (fork leaf x) → TakenApart w u v f x
-    unlabel-earlier-k f x e = unlabel-takes f x e
+    pub unlabel_earlier_k : (f x : Tree) → tree_at w v ≡ labelled_earlier f (fork leaf x) → TakenApart w u v f x
+    unlabel_earlier_k f x e = unlabel_takes f x e

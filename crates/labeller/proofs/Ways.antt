@@ -52,8 +52,8 @@ module _ (w s o l : List ℕ) {k n m : ℕ} (h : lengths_fit w s o ≡ true) (f 
     refused q = rw (h, parts.is_packet, label_at_lem l m i, ← label_at_lem l m i, ← q)
 
     -- the label's field is within the packet, and what the stages ask
-    pub label-within : m ≤ length l
-    label-within = (parts.label_stands i).0
+    pub label_within : m ≤ length l
+    label_within = (parts.label_stands i).0
 
     pub asked : Passed w s o l (length l - m)
     asked = record { ready = empty_ready w s o h; rule_stands = parts.rule_stands; label_stands = omega (arith, (parts.label_stands i).1) }

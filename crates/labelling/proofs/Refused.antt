@@ -42,21 +42,21 @@ module _ {w s o : List ℕ} (l : List ℕ) where
 
   module _ (fit : Fit w s o) where
     -- 6: "a packet without tag 4 is 6 to it"
-    pub label-missing : NoLabel l → label_packet w s o l ≡ whole_out (Refused refusal.Packet) w s o
+    pub label_missing : NoLabel l → label_packet w s o l ≡ whole_out (Refused refusal.Packet) w s o
     unfolding label_packet label_whole label_parts
-    label-missing (inl e) = rw (fit_true fit, e)
-    label-missing (inr e) = rw (fit_true fit, e.1, e.2)
+    label_missing (inl e) = rw (fit_true fit, e)
+    label_missing (inr e) = rw (fit_true fit, e.1, e.2)
 
     -- 5
-    pub label-bad-rule : {p : Packet} → Labelled l p → rule p.rule ≡ none → label_packet w s o l ≡ whole_out (Refused Rule) w s o
+    pub label_bad_rule : {p : Packet} → Labelled l p → rule p.rule ≡ none → label_packet w s o l ≡ whole_out (Refused Rule) w s o
     unfolding label_packet label_whole label_parts
-    label-bad-rule {p} h q = rw (fit_true fit, h.is_packet, h.has_label, ← h.has_label, rule_lacks p q)
+    label_bad_rule {p} h q = rw (fit_true fit, h.is_packet, h.has_label, ← h.has_label, rule_lacks p q)
 
     -- 4: the arguments' texts, and then the label's
-    pub label-bad-text : {p : Packet} → Labelled l p → {t : Term} → rule p.rule ≡ some t → Unreadable (texts p)
+    pub label_bad_text : {p : Packet} → Labelled l p → {t : Term} → rule p.rule ≡ some t → Unreadable (texts p)
         → label_packet w s o l ≡ whole_out (Refused refusal.Text) w s o
     unfolding label_packet label_whole label_parts
-    label-bad-text {p} h q u = rw (fit_true fit, h.is_packet, h.has_label, ← h.has_label, texts_lack p q u)
+    label_bad_text {p} h q u = rw (fit_true fit, h.is_packet, h.has_label, ← h.has_label, texts_lack p q u)
 
 -- what the stages come to
 pub label_checked : {w s o l : List ℕ} {p : Packet} {t : Term} {v : List ℕ} {x : Tree} → LabelChecked w s o l p t v x → LabelStaged w s o t v x (label_packet w s o l)
@@ -74,30 +74,30 @@ pub checking : (w s o l : List ℕ) → Checking w s o l
 checking w s o l = go (checks w s o l)
   where
     missing : Fit w s o → NoLabel l → Checking w s o l
-    missing f u = fails (no_packet f u (label-missing l f u))
+    missing f u = fails (no_packet f u (label_missing l f u))
 
-    of-rule : Fit w s o → {p : Packet} → packet l ≡ some p → rule p.rule ≡ none → (v : Option (List ℕ)) → p.label ≡ v → Checking w s o l
-    of-rule f {p} e q none h = missing f (inr (p, e, h))
-    of-rule f {p} e q (some v) h =
+    of_rule : Fit w s o → {p : Packet} → packet l ≡ some p → rule p.rule ≡ none → (v : Option (List ℕ)) → p.label ≡ v → Checking w s o l
+    of_rule f {p} e q none h = missing f (inr (p, e, h))
+    of_rule f {p} e q (some v) h =
         let a : Labelled l p = record { is_packet = e; value = v; has_label = h } in
-        fails (no_rule f a q (label-bad-rule l f a q))
+        fails (no_rule f a q (label_bad_rule l f a q))
 
     of_text : Fit w s o → {p : Packet} → packet l ≡ some p → {t : Term} → rule p.rule ≡ some t → Unreadable (texts p) → (v : Option (List ℕ)) → p.label ≡ v → Checking w s o l
     of_text f {p} e q u none h = missing f (inr (p, e, h))
     of_text f {p} e q u (some v) h =
         let a : Labelled l p = record { is_packet = e; value = v; has_label = h } in
-        fails (no_text f a q u (label-bad-text l f a q u))
+        fails (no_text f a q u (label_bad_text l f a q u))
 
-    of-label : {p : Packet} {t : Term} {args : List Tree} → Checked w s o l p t args → {v : Option (List ℕ)} → p.label ≡ v → LabelReads v → Checking w s o l
-    of-label {p} c h no_label = missing c.fit (inr (p, c.is_packet, h))
-    of-label {args = args} c h (label_of r) = goes_on (record { args = args; checked = c; has_label = h; label_is = r })
+    of_label : {p : Packet} {t : Term} {args : List Tree} → Checked w s o l p t args → {v : Option (List ℕ)} → p.label ≡ v → LabelReads v → Checking w s o l
+    of_label {p} c h no_label = missing c.fit (inr (p, c.is_packet, h))
+    of_label {args = args} c h (label_of r) = goes_on (record { args = args; checked = c; has_label = h; label_is = r })
 
     go : Checks w s o l → Checking w s o l
     go (found.too_long h) = fails (too_long h (label_long l h))
     go (found.no_packet f e) = missing f (inl e)
-    go (found.no_rule f {p = p} e q) = of-rule f e q p.label refl
+    go (found.no_rule f {p = p} e q) = of_rule f e q p.label refl
     go (found.no_text f {p = p} e q u) = of_text f e q u p.label refl
-    go (found.passes c) = of-label c refl c.label_reads
+    go (found.passes c) = of_label c refl c.label_reads
 
 -- ---- refusals
 
@@ -139,14 +139,14 @@ module _ (w s o l : List ℕ) where
       by : {c : Refusal} → LabelRefuses w s o l (label_packet w s o l) c → LabelRefuses w s o l (label_packet w s o l) e
       by {c} r = let a : c ≡ e = cc (refuses_with r) in rw (← a) r
 
-      of-stages : {p : Packet} {t : Term} {v : List ℕ} {x : Tree} → LabelChecked w s o l p t v x → LabelStaged w s o t v x (label_packet w s o l)
+      of_stages : {p : Packet} {t : Term} {v : List ℕ} {x : Tree} → LabelChecked w s o l p t v x → LabelStaged w s o t v x (label_packet w s o l)
           → LabelRefuses w s o l (label_packet w s o l) e
-      of-stages c (staged.stops h k) = by (stops c h k.within k.outcome)
-      of-stages c (staged.ends h f r) = zero_one (cc)
+      of_stages c (staged.stops h k) = by (stops c h k.within k.outcome)
+      of_stages c (staged.ends h f r) = zero_one (cc)
 
       go : Checking w s o l → LabelRefuses w s o l (label_packet w s o l) e
       go (fails r) = by r
-      go (goes_on c) = of-stages c (label_checked c)
+      go (goes_on c) = of_stages c (label_checked c)
 
   -- "A refusal returns its number [..] and 0 for node number, steps and digits." "(on refusal used is 0)" ([1])
   pub refused_numbers_lem : (e : Refusal) → (label_packet w s o l).answer ≡ Refused e
@@ -177,7 +177,7 @@ module _ (w s o l : List ℕ) where
   -- 6 exactly where the bytes are no packet, or one without tag 4
   pub label_packet_lem : ((label_packet w s o l).answer ≡ Refused refusal.Packet) ↔ (Fit w s o × NoLabel l)
   unfolding clears number
-  label_packet_lem = (λ q. go (label_refused refusal.Packet q), λ h. ap (λ (x : Outcome Ran). x.answer) (label-missing l h.0 h.1))
+  label_packet_lem = (λ q. go (label_refused refusal.Packet q), λ h. ap (λ (x : Outcome Ran). x.answer) (label_missing l h.0 h.1))
     where
       go : LabelRefuses w s o l (label_packet w s o l) refusal.Packet → Fit w s o × NoLabel l
       go (no_packet f h r) = (f, h)
@@ -186,7 +186,7 @@ module _ (w s o l : List ℕ) where
   -- 5 exactly where the packet has a label and its rule's bytes are no rule
   pub label_rule_lem : ((label_packet w s o l).answer ≡ Refused Rule) ↔ (Fit w s o × (p : Packet) × Labelled l p × (rule p.rule ≡ none))
   unfolding clears number
-  label_rule_lem = (λ q. go (label_refused Rule q), λ h. ap (λ (x : Outcome Ran). x.answer) (label-bad-rule l h.0 h.2 h.3))
+  label_rule_lem = (λ q. go (label_refused Rule q), λ h. ap (λ (x : Outcome Ran). x.answer) (label_bad_rule l h.0 h.2 h.3))
     where
       go : LabelRefuses w s o l (label_packet w s o l) Rule → Fit w s o × (p : Packet) × Labelled l p × (rule p.rule ≡ none)
       go (no_rule f {p = p} h k r) = (f, p, h, k)
@@ -195,7 +195,7 @@ module _ (w s o l : List ℕ) where
   -- 4 exactly where the packet has a label and a rule, and one of its texts, the label's last, is not whole
   pub label_text : ((label_packet w s o l).answer ≡ Refused refusal.Text) ↔ (Fit w s o × (p : Packet) × Labelled l p × (t : Term) × (rule p.rule ≡ some t) × Unreadable (texts p))
   unfolding clears number
-  label_text = (λ q. go (label_refused refusal.Text q), λ h. ap (λ (x : Outcome Ran). x.answer) (label-bad-text l h.0 h.2 h.4 h.5))
+  label_text = (λ q. go (label_refused refusal.Text q), λ h. ap (λ (x : Outcome Ran). x.answer) (label_bad_text l h.0 h.2 h.4 h.5))
     where
       go : LabelRefuses w s o l (label_packet w s o l) refusal.Text
           → Fit w s o × (p : Packet) × Labelled l p × (t : Term) × (rule p.rule ≡ some t) × Unreadable (texts p)

@@ -15,7 +15,7 @@ use Rattle.ternary.proofs.OneText.{text_read}
 use Rattle.ternary.proofs.Reading.{read_gives}
 use Rattle.labelled.specs.Label.{labelled}
 use Rattle.labelled.specs.UnlabelClaims.{TakenApart}
-use Rattle.labelled.proofs.Unlabels.{unlabel-takes}
+use Rattle.labelled.proofs.Unlabels.{unlabel_takes}
 use Rattle.labelling.specs.LabelPacket.{label_packet}
 use Rattle.labelling.specs.Claims.{LabelCompletes}
 
@@ -31,4 +31,4 @@ remade {w} {s} {o} {l} {n = n} c w₂ u₂ s₂ v u' q =
     let r = read_gives w₂ u₂ s₂ t v u' q in
     let e : tree_at z v ≡ x = cc (r.places.tree, r.whole_text, c.written, text_read x) in
     let s : Entered true z u' [] = record { table = r.places.fine; stack = omega arith; limits_kept = refl } in
-    unlabel-takes z u' v (enters s) r.places.inside (rule_tree c.term) c.label e
+    unlabel_takes z u' v (enters s) r.places.inside (rule_tree c.term) c.label e

@@ -30,9 +30,9 @@ pub label_writes : (w s o l : List ℕ) (j u n : ℕ) (k : Uses) → (label_pack
 unfolding ran_numbers ran_uses
 label_writes w s o l j u n k q = go (checking w s o l)
   where
-    of-stages : {p : Packet} {t : Term} {v : List ℕ} {x : Tree} → LabelChecked w s o l p t v x → LabelStaged w s o t v x (label_packet w s o l) → LabelCompletes w s o l u n
-    of-stages c (stops h e) = zero_one (cc e.outcome)
-    of-stages {p} {t} {v} {x} c (ends {z = z} h f e) =
+    of_stages : {p : Packet} {t : Term} {v : List ℕ} {x : Tree} → LabelChecked w s o l p t v x → LabelStaged w s o t v x (label_packet w s o l) → LabelCompletes w s o l u n
+    of_stages c (stops h e) = zero_one (cc e.outcome)
+    of_stages {p} {t} {v} {x} c (ends {z = z} h f e) =
         let r = labelled (rule_tree t) x in
         let i : j ≡ 0 = cc in
         let a : k ≡ no_uses = cc in
@@ -71,4 +71,4 @@ label_writes w s o l j u n k q = go (checking w s o l)
 
     go : Checking w s o l → LabelCompletes w s o l u n
     go (fails r) = zero_one (cc (refuses_with r))
-    go (goes_on c) = of-stages c (label_checked c)
+    go (goes_on c) = of_stages c (label_checked c)

@@ -79,14 +79,14 @@ module _ (text words₀ words : List ℕ) (i n k w : ℕ) (v : Lexing text words
         ap (lex k w) (drop-cons text i 0 h)
         ∙ ap (λ (j : ℕ). cond (letter (get_or text i 0)) (cond (ltb k 8) (lex (suc k) (w * 256 + get_or text i 0) (drop j text)) none) (flush k w (separate (get_or text i 0) (lex 0 0 (drop j text))))) (sym (add-one i))
 
-    pub lexing-long : true ≡ letter (get_or text i 0) → k ≡ 8 → lex 0 0 text ≡ none
+    pub lexing_long : true ≡ letter (get_or text i 0) → k ≡ 8 → lex 0 0 text ≡ none
     unfolding prepend
-    lexing-long l e =
+    lexing_long l e =
         let z : lex k w (drop i text) ≡ none = unfolded ∙ rw (← l, le-ltb k 8 (omega arith)) in
         v.leads ∙ ap (prepend (take n words)) z
 
-    pub lexing-letter : true ≡ letter (get_or text i 0) → (k ≡ 8 → ⊥) → get_or text i 0 < 256 → Lexing text words₀ words (i + 1) n (k + 1) (w * 256 + get_or text i 0)
-    lexing-letter l e b =
+    pub lexing_letter : true ≡ letter (get_or text i 0) → (k ≡ 8 → ⊥) → get_or text i 0 < 256 → Lexing text words₀ words (i + 1) n (k + 1) (w * 256 + get_or text i 0)
+    lexing_letter l e b =
         let c : k < 8 = omega (arith, v.letters) in
         record {
           leads = v.leads ∙ ap (prepend (take n words)) (unfolded ∙ rw (← l, lt-ltb k 8 c, ← add-one k));
@@ -104,9 +104,9 @@ module _ (text words₀ words : List ℕ) (i n k w : ℕ) (v : Lexing text words
           ∙ prepend_flush (take n words) k w (separate (get_or text i 0) (lex 0 0 (drop (i + 1) text)))
           ∙ ap (λ (x : List ℕ). prepend x (separate (get_or text i 0) (lex 0 0 (drop (i + 1) text)))) (sym f.front)
 
-      pub lexing-space : get_or text i 0 ≡ 32 → Lexing text words₀ ws (i + 1) m 0 0
+      pub lexing_space : get_or text i 0 ≡ 32 → Lexing text words₀ ws (i + 1) m 0 0
       unfolding separate top
-      lexing-space e = record {
+      lexing_space e = record {
         leads = flushed ∙ rw (eq-eqb (get_or text i 0) 32 e);
         within = omega arith;
         few = omega (arith, v.few, f.most);
@@ -116,13 +116,13 @@ module _ (text words₀ words : List ℕ) (i n k w : ℕ) (v : Lexing text words
       }
 
       module _ (e : get_or text i 0 ≡ 32 → ⊥) (b : Bool) (q : b ≡ is_sign (get_or text i 0)) where
-        pub lexing-broken : not b ≡ true → lex 0 0 text ≡ none
+        pub lexing_broken : not b ≡ true → lex 0 0 text ≡ none
         unfolding separate prepend
-        lexing-broken z = flushed ∙ rw (ne_eqb (get_or text i 0) 32 e, ← q, not-true b z)
+        lexing_broken z = flushed ∙ rw (ne_eqb (get_or text i 0) 32 e, ← q, not-true b z)
 
-        pub lexing-sign : not b ≡ false → m < length ws → Lexing text words₀ (set ws m (get_or text i 0)) (i + 1) (m + 1) 0 0
+        pub lexing_sign : not b ≡ false → m < length ws → Lexing text words₀ (set ws m (get_or text i 0)) (i + 1) (m + 1) 0 0
         unfolding separate top
-        lexing-sign z r = let y : take (m + 1) (set ws m (get_or text i 0)) ≡ take m ws ++ (get_or text i 0 ∷ []) = rw (add-one, take-suc-set ws m (get_or text i 0) r) in record {
+        lexing_sign z r = let y : take (m + 1) (set ws m (get_or text i 0)) ≡ take m ws ++ (get_or text i 0 ∷ []) = rw (add-one, take-suc-set ws m (get_or text i 0) r) in record {
           leads =
               flushed ∙ rw (ne_eqb (get_or text i 0) 32 e, ← q, not-false b z)
               (prepend_before (take m ws) (get_or text i 0) (lex 0 0 (drop (i + 1) text)))

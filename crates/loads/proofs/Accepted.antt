@@ -57,13 +57,13 @@ module _ (seed n : ℕ) (k : IsCount n) where
 
   module _ (w : List ℕ) (u : ℕ) (s : List ℕ) where
     -- "Every nonempty load is a whole text that Read accepts given a table that passes 1 and 2, nodes and frames." ([10])
-    pub load-reads : at_entry true w u s ≡ none → most_pending (load seed n) ≤ frames s → {m : Placed} → lay (record { words = w; used = u }) load_tree ≡ got m
+    pub load_reads : at_entry true w u s ≡ none → most_pending (load seed n) ≤ frames s → {m : Placed} → lay (record { words = w; used = u }) load_tree ≡ got m
         → read w u s (load seed n) ≡ placed m s
-    load-reads e f {m} g = read_lays w u s (load seed n) (record { entered = e; readable_as = load_readable; frames_enough = f; placed_as = m; nodes_enough = g })
+    load_reads e f {m} g = read_lays w u s (load seed n) (record { entered = e; readable_as = load_readable; frames_enough = f; placed_as = m; nodes_enough = g })
 
     -- The other way: where Read refuses a load, one of these is lacking.
-    pub load-refused : (e : Refusal) → (read w u s (load seed n)).answer ≡ Refused e → LoadLacks w u s (load seed n) e
-    load-refused e q = go (read_lacks w u s (load seed n) e q)
+    pub load_refused : (e : Refusal) → (read w u s (load seed n)).answer ≡ Refused e → LoadLacks w u s (load seed n) e
+    load_refused e q = go (read_lacks w u s (load seed n) e q)
       where
         go : {f : Refusal} {w' s' : List ℕ} → ReadLacks w u s (load seed n) f w' s' → LoadLacks w u s (load seed n) f
         go (ReadLacks.of_entry p) = LoadLacks.of_entry p
@@ -72,5 +72,5 @@ module _ (seed n : ℕ) (k : IsCount n) where
         go (ReadLacks.no_nodes p r h a) = LoadLacks.no_nodes p h r.tree_is a
 
     -- a free node for each digit and a frame for each two of them, rounded up, are enough
-    pub load-room : at_entry true w u s ≡ none → n ≤ frames s * 2 → u + n ≤ capacity w → ReadHas w u s (load seed n) load_tree
-    load-room e f h = read_room w u s (load seed n) e load_readable (omega (arith, load_frames)) (omega (arith, load_many seed n k))
+    pub load_room : at_entry true w u s ≡ none → n ≤ frames s * 2 → u + n ≤ capacity w → ReadHas w u s (load seed n) load_tree
+    load_room e f h = read_room w u s (load seed n) e load_readable (omega (arith, load_frames)) (omega (arith, load_many seed n k))

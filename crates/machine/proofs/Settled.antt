@@ -44,17 +44,17 @@ module _ (u : ℕ) (w s y z : List ℕ) (x : Turned) (a : Ended) (stack : z ≡ 
     unfolding stopped
     undone e r = rw (r, nodes, all_zeros)
 
-    pub settle-more : x.end ≡ ends.More → a ≡ at Steps → whole a y z ≡ ended u s (turn_of x w s)
+    pub settle_more : x.end ≡ ends.More → a ≡ at Steps → whole a y z ≡ ended u s (turn_of x w s)
     unfolding ended
-    settle-more e r = rw e (undone Steps r)
+    settle_more e r = rw e (undone Steps r)
 
-    pub settle-nodes : x.end ≡ ends.Nodes → a ≡ at Nodes → whole a y z ≡ ended u s (turn_of x w s)
+    pub settle_nodes : x.end ≡ ends.Nodes → a ≡ at Nodes → whole a y z ≡ ended u s (turn_of x w s)
     unfolding ended
-    settle-nodes e r = rw e (undone Nodes r)
+    settle_nodes e r = rw e (undone Nodes r)
 
-    pub settle-frames : x.end ≡ ends.Frames → a ≡ at Frames → whole a y z ≡ ended u s (turn_of x w s)
+    pub settle_frames : x.end ≡ ends.Frames → a ≡ at Frames → whole a y z ≡ ended u s (turn_of x w s)
     unfolding ended
-    settle-frames e r = rw e (undone Frames r)
+    settle_frames e r = rw e (undone Frames r)
 
 -- where an application ends with a node, the table is ready as the uses left it
 pub settle_ready : (u : ℕ) (t : Turned) (y z : List ℕ) (a : Ended) (w s : List ℕ) (i : ℕ) (ix : List ℕ) → whole a w s ≡ ended u z (turn_of t y z) → ReadyTurned t y i ix → ReadyEnded a w i ix

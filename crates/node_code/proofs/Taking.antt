@@ -32,7 +32,7 @@ module _ (many v : ℕ) where
   pub record TakesAll (t : Tree) (m x : ℕ) : Type 0 where
     pub few : m ≤ 10
     pub many_is : m ≡ many + size t
-    pub value-is : x ≡ value_from v (text t)
+    pub value_is : x ≡ value_from v (text t)
 
   pub takes_all : (t : Tree) {m x : ℕ} → taken_text many v t ≡ Short m x → TakesAll t m x
   unfolding taken_text
@@ -42,7 +42,7 @@ module _ (many v : ℕ) where
       go true p e =
           let a : many + size t ≡ m = cc in
           let b : value_from v (text t) ≡ x = cc in
-          record { few = omega (arith, leb-true (many + size t) 10 p); many_is = sym a; value-is = sym b }
+          record { few = omega (arith, leb-true (many + size t) 10 p); many_is = sym a; value_is = sym b }
       go false p e = zero_one (cc)
 
   pub takes_too_many : (t : Tree) → taken_text many v t ≡ Long → 10 < many + size t
@@ -79,7 +79,7 @@ module _ (many v : ℕ) {t p q : Tree} (e : t ≡ fork p q) where
   fork_taken {m} {x} h =
       let a = takes_all (many + 1) (v * 3 + 2) p h in
       let n : m + size q ≡ many + (size p + size q + 1) = omega (arith, a.many_is) in
-      let y : value_from x (text q) ≡ value_from (v * 3 + 2) (text p ++ text q) = ap (λ (k : ℕ). value_from k (text q)) a.value-is ∙ sym (value_append (v * 3 + 2) (text p) (text q)) in
+      let y : value_from x (text q) ≡ value_from (v * 3 + 2) (text p ++ text q) = ap (λ (k : ℕ). value_from k (text q)) a.value_is ∙ sym (value_append (v * 3 + 2) (text p) (text q)) in
       rw (e, n, y)
 
 -- the digits taken have a value below 1 with so many digits 0 after it
@@ -87,4 +87,4 @@ pub taken_fits : (many v : ℕ) (t : Tree) {m x : ℕ} → v < padded many 1 →
 taken_fits many v t {m} {x} h e =
     let a = takes_all many v t e in
     let n : many + length (text t) ≡ m = omega (arith, a.many_is, length_text t) in
-    subst (λ (k : ℕ). x < padded k 1) n (rw a.value-is (value_below (text t) v many h (text_digits t)))
+    subst (λ (k : ℕ). x < padded k 1) n (rw a.value_is (value_below (text t) v many h (text_digits t)))

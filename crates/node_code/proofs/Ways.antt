@@ -40,7 +40,7 @@ unfolding value
 found_code t {m} {x} {r} e p =
     let a = takes_all 0 0 t e in
     let i = (has_code t).1 (omega (arith, a.few, a.many_is)) in
-    let k : PlaceFor (value (text t)) r = subst (λ (y : ℕ). PlaceFor y r) a.value-is p in
+    let k : PlaceFor (value (text t)) r = subst (λ (y : ℕ). PlaceFor y r) a.value_is p in
     subst (IsCode t) (found_place (value (text t)) i.0 r (code_place i.1) k) i.1
 
 module _ (w : List ℕ) (u v : ℕ) (q : at_entry true w u [] ≡ none) where
@@ -51,8 +51,8 @@ module _ (w : List ℕ) (u v : ℕ) (q : at_entry true w u [] ≡ none) where
     asked : Askable w u v
     asked = record { entered = q; in_use = h }
 
-    pub long-none : taken_text 0 0 (tree_at w v) ≡ Long → Nothing ≡ code w u v
-    long-none e = sym (code_gives w u v (too_many asked (omega (arith, length_text (tree_at w v), takes_too_many 0 0 (tree_at w v) e))))
+    pub long_none : taken_text 0 0 (tree_at w v) ≡ Long → Nothing ≡ code w u v
+    long_none e = sym (code_gives w u v (too_many asked (omega (arith, length_text (tree_at w v), takes_too_many 0 0 (tree_at w v) e))))
 
-    pub short-coded : {m x r : ℕ} → taken_text 0 0 (tree_at w v) ≡ Short m x → PlaceFor x r → Number r ≡ code w u v
-    short-coded e p = sym (code_gives w u v (coded asked (found_code (tree_at w v) e p)))
+    pub short_coded : {m x r : ℕ} → taken_text 0 0 (tree_at w v) ≡ Short m x → PlaceFor x r → Number r ≡ code w u v
+    short_coded e p = sym (code_gives w u v (coded asked (found_code (tree_at w v) e p)))

@@ -23,10 +23,10 @@ unfolding high_first
 four l at h =
     let a : at + 1 + 1 ≡ at + 2 = omega arith in
     let b : at + 1 + 2 ≡ at + 3 = omega arith in
-    rw (three l at (omega arith), four-th) (omega arith)
+    rw (three l at (omega arith), four_th) (omega arith)
   where
-    four-th : drop (at + 3) l ≡ get_or l (at + 3) 0 ∷ drop (suc (at + 3)) l
-    four-th = drop-cons l (at + 3) 0 (omega arith)
+    four_th : drop (at + 3) l ≡ get_or l (at + 3) 0 ∷ drop (suc (at + 3)) l
+    four_th = drop-cons l (at + 3) 0 (omega arith)
 
 below : {a b : ℕ} → a ≤ b → (a ≡ b → ⊥) → a < b
 below {a} {b} h n = go (leb b a) refl
@@ -72,37 +72,37 @@ module _ (l : List ℕ) (at : ℕ) where
 
     -- after a limit n: the label, which is the last
     module _ (n : ℕ) where
-      pub limit-tag : (get_or l at 0 ≡ 4 → ⊥) → Broken ≡ counted k (form_of (with_fields (after_limit q n) (fields_from l at)))
+      pub limit_tag : (get_or l at 0 ≡ 4 → ⊥) → Broken ≡ counted k (form_of (with_fields (after_limit q n) (fields_from l at)))
       unfolding with_fields form_of counted before after_limit
-      limit-tag e = rw (fields_next l at h) (go (fields_from l (end_at l at)))
+      limit_tag e = rw (fields_next l at h) (go (fields_from l (end_at l at)))
         where
           go : (x : Option (List Field)) → Broken ≡ counted k (form_of (with_fields (after_limit q n) (before f x)))
           go none = refl
           go (some []) = rw (ne_eqb (get_or l at 0) 4 e)
           go (some (g ∷ gs)) = refl
 
-      pub limit-more : (end_at l at ≡ length l → ⊥) → Broken ≡ counted k (form_of (with_fields (after_limit q n) (fields_from l at)))
+      pub limit_more : (end_at l at ≡ length l → ⊥) → Broken ≡ counted k (form_of (with_fields (after_limit q n) (fields_from l at)))
       unfolding with_fields form_of counted before after_limit
-      limit-more e = rw (fields_next l at h) (go (fields_from l (end_at l at)) refl)
+      limit_more e = rw (fields_next l at h) (go (fields_from l (end_at l at)) refl)
         where
           go : (x : Option (List Field)) → fields_from l (end_at l at) ≡ x → Broken ≡ counted k (form_of (with_fields (after_limit q n) (before f x)))
           go none p = refl
           go (some []) p = absurd (fields_some l (end_at l at) (below h e) p)
           go (some (g ∷ gs)) p = refl
 
-      pub limit-label : get_or l at 0 ≡ 4 → (e : ℕ) → e ≡ end_at l at → end_at l at ≡ length l
+      pub limit_label : get_or l at 0 ≡ 4 → (e : ℕ) → e ≡ end_at l at → end_at l at ≡ length l
           → Whole k n (e - at) ≡ counted k (form_of (with_fields (after_limit q n) (fields_from l at)))
       unfolding with_fields form_of counted before after_limit label_size
-      limit-label t e i z =
+      limit_label t e i z =
           let a : k + 0 ≡ k = omega arith in
           let b : e - at ≡ 3 + length (value_at l at) = omega (arith, size) in
           rw (fields_next l at h, fields_end l (end_at l at) (omega arith), eq-eqb (get_or l at 0) 4 t, a, b)
 
     -- after the arguments: the limit, and what may follow it
-    pub arguments-other : (get_or l at 0 ≡ 3 → ⊥)
+    pub arguments_other : (get_or l at 0 ≡ 3 → ⊥)
         → counted k (form_of (with_fields (after_limit q default_limit) (fields_from l at))) ≡ counted k (form_of (with_fields (after_arguments q) (fields_from l at)))
     unfolding with_fields before after_arguments
-    arguments-other e = rw (fields_next l at h) (go (fields_from l (end_at l at)))
+    arguments_other e = rw (fields_next l at h) (go (fields_from l (end_at l at)))
       where
         go : (x : Option (List Field)) → counted k (form_of (with_fields (after_limit q default_limit) (before f x))) ≡ counted k (form_of (with_fields (after_arguments q) (before f x)))
         go none = refl
@@ -118,8 +118,8 @@ module _ (l : List ℕ) (at : ℕ) where
           go none = refl
           go (some fs) = rw (eq-eqb (get_or l at 0) 3 t, e)
 
-      pub arguments-size : (end_at l at ≡ at + 3 + 4 → ⊥) → Broken ≡ counted k (form_of (with_fields (after_arguments q) (fields_from l at)))
-      arguments-size n = bad (rw (ne_eqb (length (value_at l at)) 4 (λ e. n (omega (arith, size)))))
+      pub arguments_size : (end_at l at ≡ at + 3 + 4 → ⊥) → Broken ≡ counted k (form_of (with_fields (after_arguments q) (fields_from l at)))
+      arguments_size n = bad (rw (ne_eqb (length (value_at l at)) 4 (λ e. n (omega (arith, size)))))
 
       module _ (s : end_at l at ≡ at + 3 + 4) (n : ℕ) (e : n ≡ high_first 0 (take 4 (drop (at + 3) l))) where
         value : value_at l at ≡ take 4 (drop (at + 3) l)
@@ -132,10 +132,10 @@ module _ (l : List ℕ) (at : ℕ) where
             go true e = e
             go false e = refl
 
-        pub arguments-limit : n ≤ 1000000 → {i : ℕ} → i ≡ end_at l at
+        pub arguments_limit : n ≤ 1000000 → {i : ℕ} → i ≡ end_at l at
             → counted k (form_of (with_fields (after_limit q n) (fields_from l i))) ≡ counted k (form_of (with_fields (after_arguments q) (fields_from l at)))
         unfolding with_fields before after_arguments
-        arguments-limit m p = rw (p, fields_next l at h) (go (fields_from l (end_at l at)))
+        arguments_limit m p = rw (p, fields_next l at h) (go (fields_from l (end_at l at)))
           where
             go : (x : Option (List Field)) → counted k (form_of (with_fields (after_limit q n) x)) ≡ counted k (form_of (with_fields (after_arguments q) (before f x)))
             go none = refl
@@ -180,12 +180,12 @@ module _ (l : List ℕ) (at k : ℕ) (q : List ℕ) where
         go zero (some fs) = refl
         go (suc j) (some fs) = rw (ne_eqb (get_or l at 0) 2 n)
 
-    pub after-ninth : get_or l at 0 ≡ 2 → k ≡ 8 → Broken ≡ counted k (form_of (with_fields (after_rule q (8 - k)) (fields_from l at)))
+    pub after_ninth : get_or l at 0 ≡ 2 → k ≡ 8 → Broken ≡ counted k (form_of (with_fields (after_rule q (8 - k)) (fields_from l at)))
     unfolding with_fields after_rule before
-    after-ninth e f =
+    after_ninth e f =
         let j : 8 - k ≡ 0 = omega arith in
-        limit-tag l at k h q default_limit (λ i. let z : ◌≡◌ {A = ℕ} 2 4 = cc in omega arith)
-        ∙ arguments-other l at k h q (λ i. let z : ◌≡◌ {A = ℕ} 2 3 = cc in omega arith)
+        limit_tag l at k h q default_limit (λ i. let z : ◌≡◌ {A = ℕ} 2 4 = cc in omega arith)
+        ∙ arguments_other l at k h q (λ i. let z : ◌≡◌ {A = ℕ} 2 3 = cc in omega arith)
         ∙ rw j (go (fields_from l at))
       where
         go : (x : Option (List Field)) → counted k (form_of (with_fields (after_arguments q) x)) ≡ counted k (form_of (with_fields (after_rule q 0) x))
@@ -217,18 +217,18 @@ module _ (l : List ℕ) where
   packet_long h = rw (lt-leb (length l) 16384 h)
 
   module _ (h : length l ≤ 16384) where
-    pub packet-nothing : length l < end_at l 0 → Broken ≡ form_of (packet l)
+    pub packet_nothing : length l < end_at l 0 → Broken ≡ form_of (packet l)
     unfolding packet from_fields form_of
-    packet-nothing n = rw (le-leb (length l) 16384 h) (go (length l) refl)
+    packet_nothing n = rw (le-leb (length l) 16384 h) (go (length l) refl)
       where
         go : (m : ℕ) → length l ≡ m → Broken ≡ form_of (from_fields (fields_from l 0))
         go zero e = rw (fields_end l 0 (omega arith))
         go (suc m) e = rw (fields_broken l 0 (omega arith) n)
 
     module _ (i : end_at l 0 ≤ length l) where
-      pub packet-tag : (get_or l 0 0 ≡ 1 → ⊥) → Broken ≡ form_of (packet l)
+      pub packet_tag : (get_or l 0 0 ≡ 1 → ⊥) → Broken ≡ form_of (packet l)
       unfolding packet from_fields before form_of
-      packet-tag n = rw (le-leb (length l) 16384 h, fields_next l 0 i) (go (fields_from l (end_at l 0)))
+      packet_tag n = rw (le-leb (length l) 16384 h, fields_next l 0 i) (go (fields_from l (end_at l 0)))
         where
           go : (x : Option (List Field)) → Broken ≡ form_of (from_fields (before (record { tag = get_or l 0 0; value = value_at l 0 }) x))
           go none = refl

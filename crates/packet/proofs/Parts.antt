@@ -13,7 +13,7 @@ use Rattle.fields.specs.Packet.{Field, before, Packet, default_limit, high_first
 use Rattle.packet.specs.Code.{size_at, end_at, value_at, Stand, values_at, fields_from, with_fields, label_size, form_of, label_at, LabelStands, packet_at}
 use Rattle.packet.specs.declared.Form.TheVariants.{Whole, Broken}
 use Rattle.packet.proofs.Fields.{fields_end, fields_broken, fields_next, fields_some}
-use Rattle.packet.proofs.Forms.{packet_long, packet-nothing, packet-tag, packet_after}
+use Rattle.packet.proofs.Forms.{packet_long, packet_nothing, packet_tag, packet_after}
 
 -- What is read of the fields from a position on goes by what stands there: nothing, a field that does not end within the packet, or one that does.
 each_case : (l : List ℕ) (at : ℕ) (P : Option (List Field) → Type 0) → P (some []) → P none
@@ -52,14 +52,14 @@ limit_ends l at q n = each_case l at (λ (x : Option (List Field)). EndOf l q (w
         go true g = let i = leb-true (length l) (end_at l at) g in omega arith
         go false g = absurd (fields_some l (end_at l at) (leb-false (length l) (end_at l at) g) e)
 
-    by-tag : end_at l at ≡ length l → (z : Bool)
+    by_tag : end_at l at ≡ length l → (z : Bool)
         → EndOf l q (cond z (some (record { rule = q; arguments = []; limit = n; label = some (value_at l at) })) none)
-    by-tag h true = (refl, refl, (at, h, refl))
-    by-tag h false = tt
+    by_tag h true = (refl, refl, (at, h, refl))
+    by_tag h false = tt
 
     field : end_at l at ≤ length l → (x : Option (List Field)) → fields_from l (end_at l at) ≡ x → EndOf l q (with_fields (after_limit q n) (before f x))
     field h none e = tt
-    field h (some []) e = by-tag (last h e) (eqb (get_or l at 0) 4)
+    field h (some []) e = by_tag (last h e) (eqb (get_or l at 0) 4)
     field h (some (g ∷ gs)) e = tt
 
 arguments_ends : (l : List ℕ) (at : ℕ) (q : List ℕ) → EndOf l q (with_fields (after_arguments q) (fields_from l at))
@@ -170,11 +170,11 @@ packet_parts l k n m e = short (leb (length l) 16384) refl
 
     tag : length l ≤ 16384 → end_at l 0 ≤ length l → (z : Bool) → eqb (get_or l 0 0) 1 ≡ z → Parts l k n m
     tag s h true f = let p = packet_after l s h (eqb-true (get_or l 0 0) 1 f) in is h _ p (after_parts l (end_at l 0) (value_at l 0) 8)
-    tag s h false f = no (packet-tag l s h (eqb-false (get_or l 0 0) 1 f))
+    tag s h false f = no (packet_tag l s h (eqb-false (get_or l 0 0) 1 f))
 
     found : length l ≤ 16384 → (z : Bool) → leb (end_at l 0) (length l) ≡ z → Parts l k n m
     found s true f = tag s (leb-true (end_at l 0) (length l) f) (eqb (get_or l 0 0) 1) refl
-    found s false f = no (packet-nothing l s (leb-false (end_at l 0) (length l) f))
+    found s false f = no (packet_nothing l s (leb-false (end_at l 0) (length l) f))
 
     short : (z : Bool) → leb (length l) 16384 ≡ z → Parts l k n m
     short true f = found (leb-true (length l) 16384 f) (leb (end_at l 0) (length l)) refl

@@ -27,13 +27,13 @@ module _ (w s o : List ℕ) where
   long_table h = rw (lt-leb (length w) 131072 h)
 
   module _ (h : length w ≤ 131072) where
-    pub long-stack : 65536 < length s → false ≡ lengths_fit w s o
+    pub long_stack : 65536 < length s → false ≡ lengths_fit w s o
     unfolding lengths_fit
-    long-stack i = rw (le-leb (length w) 131072 h, lt-leb (length s) 65536 i)
+    long_stack i = rw (le-leb (length w) 131072 h, lt-leb (length s) 65536 i)
 
-    pub out-fits : length s ≤ 65536 → leb (length o) 65535 ≡ lengths_fit w s o
+    pub out_fits : length s ≤ 65536 → leb (length o) 65535 ≡ lengths_fit w s o
     unfolding lengths_fit
-    out-fits i = rw (le-leb (length w) 131072 h, le-leb (length s) 65536 i)
+    out_fits i = rw (le-leb (length w) 131072 h, le-leb (length s) 65536 i)
 
 -- ---- texts
 
@@ -43,19 +43,19 @@ module _ (l : List ℕ) (at count i : ℕ) where
   texts_end h = let a : count - i ≡ 0 = omega arith in rw a
 
   module _ (h : i < count) (st : Stand l at (count - i)) where
-    pub texts-next : {b : Bool} → b ≡ is_some (readable (value_at l at)) → b ≡ true
+    pub texts_next : {b : Bool} → b ≡ is_some (readable (value_at l at)) → b ≡ true
         → all_readable (values_at l (end_at l at) (count - (i + 1))) ≡ all_readable (values_at l at (count - i))
     unfolding all_readable is_some
-    texts-next {b} e q = rw (next_field l at count i h st).values (go (readable (value_at l at)) refl)
+    texts_next {b} e q = rw (next_field l at count i h st).values (go (readable (value_at l at)) refl)
       where
         go : (r : Option Tree) → readable (value_at l at) ≡ r
             → all_readable (values_at l (end_at l at) (count - (i + 1))) ≡ all_readable (value_at l at ∷ values_at l (end_at l at) (count - (i + 1)))
         go none p = zero_one (cc (rw p at e))
         go (some t) p = rw p
 
-    pub texts-stop : {b : Bool} → b ≡ is_some (readable (value_at l at)) → b ≡ false → false ≡ all_readable (values_at l at (count - i))
+    pub texts_stop : {b : Bool} → b ≡ is_some (readable (value_at l at)) → b ≡ false → false ≡ all_readable (values_at l at (count - i))
     unfolding all_readable is_some
-    texts-stop {b} e q = rw (next_field l at count i h st).values (go (readable (value_at l at)) refl)
+    texts_stop {b} e q = rw (next_field l at count i h st).values (go (readable (value_at l at)) refl)
       where
         go : (r : Option Tree) → readable (value_at l at) ≡ r → false ≡ all_readable (value_at l at ∷ values_at l (end_at l at) (count - (i + 1)))
         go none p = rw p
@@ -91,15 +91,15 @@ module _ (l : List ℕ) (vs bs : List (List ℕ)) {n : ℕ} (e : n ≡ size_of (
   rule_none z = rw (no_rule (value_at l 0) e z)
 
   module _ (z : n ≡ 0 → ⊥) {a : Bool} (f : a ≡ all_readable vs) where
-    pub text-none : a ≡ false → some refusal.Text ≡ parts_lack (value_at l 0) (vs ++ bs)
+    pub text_none : a ≡ false → some refusal.Text ≡ parts_lack (value_at l 0) (vs ++ bs)
     unfolding parts_lack
-    text-none q = rw ((sized (value_at l 0) e z).is_rule, texts_append vs bs, ← f, q)
+    text_none q = rw ((sized (value_at l 0) e z).is_rule, texts_append vs bs, ← f, q)
 
     module _ (g : a ≡ true) {b : Bool} (h : b ≡ all_readable bs) where
       pub label_none : b ≡ false → some refusal.Text ≡ parts_lack (value_at l 0) (vs ++ bs)
       unfolding parts_lack
       label_none q = rw ((sized (value_at l 0) e z).is_rule, texts_append vs bs, ← f, g, ← h, q)
 
-      pub all-checked : b ≡ true → none ≡ parts_lack (value_at l 0) (vs ++ bs)
+      pub all_checked : b ≡ true → none ≡ parts_lack (value_at l 0) (vs ++ bs)
       unfolding parts_lack
-      all-checked q = rw ((sized (value_at l 0) e z).is_rule, texts_append vs bs, ← f, g, ← h, q)
+      all_checked q = rw ((sized (value_at l 0) e z).is_rule, texts_append vs bs, ← f, g, ← h, q)

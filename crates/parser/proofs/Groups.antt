@@ -76,37 +76,37 @@ module _ (ws : List ℕ) (at d : ℕ) (Γ : List ℕ) where
     opened e n = opens e ∙ inside_by (λ i. parse i Γ empty) d (tokens (drop (at + 1) ws)) n
 
     module _ (e : get_or ws at 0 ≡ 40) (n : d ≡ 0 → ⊥) where
-      pub group-nothing : parse (d - 1) Γ empty (tokens (drop (at + 1) ws)) ≡ nothing → operand d Γ (tokens (drop at ws)) ≡ nothing
+      pub group_nothing : parse (d - 1) Γ empty (tokens (drop (at + 1) ws)) ≡ nothing → operand d Γ (tokens (drop at ws)) ≡ nothing
       unfolding follow
-      group-nothing q = opened e n ∙ ap (λ (z : Read). follow z enclosed) q
+      group_nothing q = opened e n ∙ ap (λ (z : Read). follow z enclosed) q
 
       module _ (x : Expression) (next : ℕ) (q : parse (d - 1) Γ empty (tokens (drop (at + 1) ws)) ≡ read x (tokens (drop next ws))) where
         closes : operand d Γ (tokens (drop at ws)) ≡ enclosed x (tokens (drop next ws))
         unfolding follow
         closes = opened e n ∙ ap (λ (z : Read). follow z enclosed) q
 
-        pub group-cut : length ws ≤ next → operand d Γ (tokens (drop at ws)) ≡ nothing
+        pub group_cut : length ws ≤ next → operand d Γ (tokens (drop at ws)) ≡ nothing
         unfolding enclosed
-        group-cut l = closes ∙ ap (enclosed x) (tokens_end ws next l)
+        group_cut l = closes ∙ ap (enclosed x) (tokens_end ws next l)
 
-        pub group-open : next < length ws → (get_or ws next 0 ≡ 41 → ⊥) → operand d Γ (tokens (drop at ws)) ≡ nothing
-        group-open l c = closes ∙ ap (enclosed x) (tokens_at ws next l) ∙ not_closing (get_or ws next 0) x _ c
+        pub group_open : next < length ws → (get_or ws next 0 ≡ 41 → ⊥) → operand d Γ (tokens (drop at ws)) ≡ nothing
+        group_open l c = closes ∙ ap (enclosed x) (tokens_at ws next l) ∙ not_closing (get_or ws next 0) x _ c
 
-        pub group-closed : next < length ws → get_or ws next 0 ≡ 41 → operand d Γ (tokens (drop at ws)) ≡ read x (tokens (drop (next + 1) ws))
+        pub group_closed : next < length ws → get_or ws next 0 ≡ 41 → operand d Γ (tokens (drop at ws)) ≡ read x (tokens (drop (next + 1) ws))
         unfolding enclosed
-        group-closed l c = closes ∙ ap (enclosed x) (sign_at is_closing ws next l c)
+        group_closed l c = closes ∙ ap (enclosed x) (sign_at is_closing ws next l c)
 
     module _ (e : get_or ws at 0 ≡ 92) where
       binds : operand d Γ (tokens (drop at ws)) ≡ binder (λ x. parse d (x ∷ Γ) empty) (tokens (drop (at + 1) ws))
       unfolding operand operand_by
       binds = ap (operand d Γ) (sign_at is_backslash ws at h e)
 
-      pub binder-cut : length ws - at < 3 → operand d Γ (tokens (drop at ws)) ≡ nothing
-      binder-cut l = binds ∙ lone_nothing (λ x. parse d (x ∷ Γ) empty) (tokens (drop (at + 1) ws)) (omega (arith, tokens_length (drop (at + 1) ws), length-drop (at + 1) ws))
+      pub binder_cut : length ws - at < 3 → operand d Γ (tokens (drop at ws)) ≡ nothing
+      binder_cut l = binds ∙ lone_nothing (λ x. parse d (x ∷ Γ) empty) (tokens (drop (at + 1) ws)) (omega (arith, tokens_length (drop (at + 1) ws), length-drop (at + 1) ws))
 
       module _ (l : 3 ≤ length ws - at) where
-        pub binder-unnamed : (b : Bool) → IsName (get_or ws (at + 1) 0) b → not b ≡ true → operand d Γ (tokens (drop at ws)) ≡ nothing
-        binder-unnamed b i z =
+        pub binder_unnamed : (b : Bool) → IsName (get_or ws (at + 1) 0) b → not b ≡ true → operand d Γ (tokens (drop at ws)) ≡ nothing
+        binder_unnamed b i z =
             binds ∙ ap (binder (λ x. parse d (x ∷ Γ) empty)) (tokens_at ws (at + 1) (omega arith))
             ∙ (subst (IsName (get_or ws (at + 1) 0)) (not-true b z) i _).0 (λ x. parse d (x ∷ Γ) empty)
 
@@ -119,24 +119,24 @@ module _ (ws : List ℕ) (at d : ℕ) (Γ : List ℕ) where
               ∙ ap (binder (λ x. parse d (x ∷ Γ) empty)) (tokens_at ws (at + 1) (omega arith) ∙ ap (λ (u : Token). u ∷ tokens (drop (at + 1 + 1) ws)) t)
               ∙ ap (λ (j : ℕ). body (λ ts. parse d (get_or ws (at + 1) 0 ∷ Γ) empty ts) (tokens (drop j ws))) k
 
-          pub binder-unstopped : (get_or ws (at + 2) 0 ≡ 46 → ⊥) → operand d Γ (tokens (drop at ws)) ≡ nothing
-          binder-unstopped n = named ∙ ap (body (λ ts. parse d (get_or ws (at + 1) 0 ∷ Γ) empty ts)) (tokens_at ws (at + 2) (omega arith)) ∙ not_stop (get_or ws (at + 2) 0) _ _ n
+          pub binder_unstopped : (get_or ws (at + 2) 0 ≡ 46 → ⊥) → operand d Γ (tokens (drop at ws)) ≡ nothing
+          binder_unstopped n = named ∙ ap (body (λ ts. parse d (get_or ws (at + 1) 0 ∷ Γ) empty ts)) (tokens_at ws (at + 2) (omega arith)) ∙ not_stop (get_or ws (at + 2) 0) _ _ n
 
 -- whether an abstraction opens at a place
 module _ (ws : List ℕ) (at : ℕ) where
   pub no_binder_cut : length ws - at < 3 → IsBinder ws at false
-  no_binder_cut l = λ h e d Γ. binder-cut ws at d Γ h e l
+  no_binder_cut l = λ h e d Γ. binder_cut ws at d Γ h e l
 
   pub no_binder_sign : (get_or ws at 0 ≡ 92 → ⊥) → IsBinder ws at false
   no_binder_sign n = λ h e d Γ. absurd (n e)
 
   module _ (l : 3 ≤ length ws - at) (b : Bool) (i : IsName (get_or ws (at + 1) 0) b) where
-    pub no-binder-name : not b ≡ true → IsBinder ws at false
-    no-binder-name z = λ h e d Γ. binder-unnamed ws at d Γ h e l b i z
+    pub no_binder_name : not b ≡ true → IsBinder ws at false
+    no_binder_name z = λ h e d Γ. binder_unnamed ws at d Γ h e l b i z
 
-    pub binder-stop : get_or ws at 0 ≡ 92 → not b ≡ false → (s : Bool) → eqb (get_or ws (at + 2) 0) 46 ≡ s → IsBinder ws at s
-    binder-stop e z true q = (l, e, subst (IsName (get_or ws (at + 1) 0)) (not-false b z) i, eqb-true _ _ q)
-    binder-stop e z false q = λ h x d Γ. binder-unstopped ws at d Γ h x l (subst (IsName (get_or ws (at + 1) 0)) (not-false b z) i) (eqb-false _ _ q)
+    pub binder_stop : get_or ws at 0 ≡ 92 → not b ≡ false → (s : Bool) → eqb (get_or ws (at + 2) 0) 46 ≡ s → IsBinder ws at s
+    binder_stop e z true q = (l, e, subst (IsName (get_or ws (at + 1) 0)) (not-false b z) i, eqb-true _ _ q)
+    binder_stop e z false q = λ h x d Γ. binder_unstopped ws at d Γ h x l (subst (IsName (get_or ws (at + 1) 0)) (not-false b z) i) (eqb-false _ _ q)
 
   binder_tokens : IsBinder ws at true → tokens (drop at ws) ≡ backslash ∷ (name (get_or ws (at + 1) 0) ∷ (stop ∷ tokens (drop (at + 3) ws)))
   binder_tokens i =
@@ -180,8 +180,8 @@ module _ (ws : List ℕ) (at : ℕ) (names : List ℕ) (k : ℕ) (q : RowAsks ws
       }
 
   module _ (n : ℕ) (ms : List ℕ) (v : Row ws at names k n ms) (b : Bool) (i : IsBinder ws (at + 3 * n) b) where
-    pub row-further : b ≡ true → (at + 3 * n + 3 ≤ length ws) × (n < k)
-    row-further z = let l = (subst (IsBinder ws (at + 3 * n)) z i).0 in (omega (arith, l, v.within), omega (arith, l, q.scope))
+    pub row_further : b ≡ true → (at + 3 * n + 3 ≤ length ws) × (n < k)
+    row_further z = let l = (subst (IsBinder ws (at + 3 * n)) z i).0 in (omega (arith, l, v.within), omega (arith, l, q.scope))
 
     pub row_more : length ms ≡ length names → b ≡ true → Row ws at names k (n + 1) (set ms (k - n - 1) (get_or ws (at + 3 * n + 1) 0))
     unfolding abstracted_by
@@ -189,7 +189,7 @@ module _ (ws : List ℕ) (at : ℕ) (names : List ℕ) (k : ℕ) (q : RowAsks ws
         let x = get_or ws (at + 3 * n + 1) 0 in
         let f : at + 3 * n + 3 ≡ at + 3 * (n + 1) = omega arith in
         let g : k - n - 1 ≡ k - (n + 1) = omega arith in
-        let h = row-further z in
+        let h = row_further z in
         record {
           within = omega (arith, h.0);
           fits = omega (arith, h.1);
@@ -205,8 +205,8 @@ module _ (ws : List ℕ) (at : ℕ) (names : List ℕ) (k : ℕ) (q : RowAsks ws
               ∙ ap (λ (m : ℕ). abstracted_by m (parse d (drop (k - (n + 1)) (set ms (k - n - 1) x)) empty (tokens (drop (at + 3 * (n + 1)) ws)))) (sym (add-one n));
         }
 
-    pub row-end : b ≡ false → n ≡ 0 → (d : ℕ) (Γ : List ℕ) → operand d Γ (tokens (drop at ws)) ≡ nothing
-    row-end z y =
+    pub row_end : b ≡ false → n ≡ 0 → (d : ℕ) (Γ : List ℕ) → operand d Γ (tokens (drop at ws)) ≡ nothing
+    row_end z y =
         let f : at + 3 * n ≡ at = omega arith in
         subst (λ (j : ℕ). IsBinder ws j false) f (subst (IsBinder ws (at + 3 * n)) z i) q.before q.opens
 
@@ -217,17 +217,17 @@ module _ (ws : List ℕ) (inner : Parsed) where
   closed_nothing q = rw q
 
   module _ (next end : ℕ) (q : inner ≡ Phrase next end) where
-    pub closed-cut : length ws ≤ next → Nothing ≡ close_group ws inner
+    pub closed_cut : length ws ≤ next → Nothing ≡ close_group ws inner
     unfolding close_group
-    closed-cut l = rw (q, le-ltb next (length ws) l)
+    closed_cut l = rw (q, le-ltb next (length ws) l)
 
-    pub closed-other : next < length ws → (get_or ws next 0 ≡ 41 → ⊥) → Nothing ≡ close_group ws inner
+    pub closed_other : next < length ws → (get_or ws next 0 ≡ 41 → ⊥) → Nothing ≡ close_group ws inner
     unfolding close_group
-    closed-other l n = rw (q, lt-ltb next (length ws) l, ne_eqb (get_or ws next 0) 41 n)
+    closed_other l n = rw (q, lt-ltb next (length ws) l, ne_eqb (get_or ws next 0) 41 n)
 
-    pub closed-group : next < length ws → get_or ws next 0 ≡ 41 → Phrase (next + 1) end ≡ close_group ws inner
+    pub closed_group : next < length ws → get_or ws next 0 ≡ 41 → Phrase (next + 1) end ≡ close_group ws inner
     unfolding close_group
-    closed-group l e = rw (q, lt-ltb next (length ws) l, eq-eqb (get_or ws next 0) 41 e)
+    closed_group l e = rw (q, lt-ltb next (length ws) l, eq-eqb (get_or ws next 0) 41 e)
 
 module _ (ws : List ℕ) (at d : ℕ) (Γ : List ℕ) (w : ℕ) (post m : List ℕ) (h : at < length ws) (e : get_or ws at 0 ≡ 40) (n : d ≡ 0 → ⊥) where
   group_phrase : (next end : ℕ) → Phrased (parse (d - 1) Γ empty (tokens (drop (at + 1) ws))) ws w post m next end
@@ -239,15 +239,15 @@ module _ (ws : List ℕ) (at d : ℕ) (Γ : List ℕ) (w : ℕ) (post m : List �
           → Tells (operand d Γ (tokens (drop at ws))) ws w post m (cond y (cond z (Phrase (next + 1) end) Nothing) Nothing)
       go true p true q =
           let l = ltb-true next (length ws) p in
-          record { e = o.e; leads = group-closed ws at d Γ h e n o.e next o.leads l (eqb-true _ _ q); within = omega arith; wrote = o.wrote }
-      go true p false q = group-open ws at d Γ h e n o.e next o.leads (ltb-true next (length ws) p) (eqb-false _ _ q)
-      go false p z q = group-cut ws at d Γ h e n o.e next o.leads (ltb-false next (length ws) p)
+          record { e = o.e; leads = group_closed ws at d Γ h e n o.e next o.leads l (eqb-true _ _ q); within = omega arith; wrote = o.wrote }
+      go true p false q = group_open ws at d Γ h e n o.e next o.leads (ltb-true next (length ws) p) (eqb-false _ _ q)
+      go false p z q = group_cut ws at d Γ h e n o.e next o.leads (ltb-false next (length ws) p)
 
   pub group_told : (inner : Parsed) → Tells (parse (d - 1) Γ empty (tokens (drop (at + 1) ws))) ws w post m inner
       → Tells (operand d Γ (tokens (drop at ws))) ws w post m (close_group ws inner)
   unfolding close_group Tells
   group_told (Phrase next end) o = group_phrase next end o
-  group_told Nothing o = group-nothing ws at d Γ h e n o
+  group_told Nothing o = group_nothing ws at d Γ h e n o
 
 -- n abstractions around an expression
 unfoldable abs_by : ℕ → Expression → Expression
@@ -276,13 +276,13 @@ module _ (post : List ℕ) (inner : Parsed) (n : ℕ) where
   bodied_nothing q = rw q (refl, refl)
 
   module _ (next end : ℕ) (q : inner ≡ Phrase next end) where
-    pub room-phrase : Room post inner n → end + n ≤ length post
+    pub room_phrase : Room post inner n → end + n ≤ length post
     unfolding Room
-    room-phrase h = rw q at h
+    room_phrase h = rw q at h
 
-    pub bodied-phrase : (m : List ℕ) (e : ℕ) → Wrote post end (replicate n 4) e m → Bodied post inner n (Phrase next e) m
+    pub bodied_phrase : (m : List ℕ) (e : ℕ) → Wrote post end (replicate n 4) e m → Bodied post inner n (Phrase next e) m
     unfolding Bodied
-    bodied-phrase m e w = let f = put_end post m end n 4 e w in rw (q, f) (refl, rw f at w)
+    bodied_phrase m e w = let f = put_end post m end n 4 e w in rw (q, f) (refl, rw f at w)
 
 -- the operand that a row of abstractions and its body are
 module _ (ws : List ℕ) (at d : ℕ) (names : List ℕ) (k : ℕ) (post : List ℕ) (w : ℕ) (q : Asks ws at names k post w) (n : ℕ) (ms : List ℕ)
@@ -310,21 +310,21 @@ module _ (ws : List ℕ) (at d : ℕ) (names : List ℕ) (k : ℕ) (post : List 
         q.space,
       )
 
-      body-phrase : (l : List ℕ) → Wrote m end (replicate n 4) (end + n) l → Phrased (operand d (drop k names) (tokens (drop at ws))) ws w post l next (end + n)
-      body-phrase l b = record {
+      body_phrase : (l : List ℕ) → Wrote m end (replicate n 4) (end + n) l → Phrased (operand d (drop k names) (tokens (drop at ws))) ws w post l next (end + n)
+      body_phrase l b = record {
         e = abs_by n o.e;
         leads = v.leads d ∙ ap (abstracted_by n) o.leads ∙ by_read n o.e _;
         within = o.within;
         wrote = rw (abs_by_symbols n o.e) at (wrote_then post m l (postfix o.e) (replicate n 4) w end (end + n) x o.wrote b);
       }
 
-    pub body-room : (inner : Parsed) → Tells (parse d (drop (k - n) ms) empty (tokens (drop (at + 3 * n) ws))) ws w post m inner → Room m inner n
+    pub body_room : (inner : Parsed) → Tells (parse d (drop (k - n) ms) empty (tokens (drop (at + 3 * n) ws))) ws w post m inner → Room m inner n
     unfolding Tells Room
-    body-room (Phrase next end) o = room next end o
-    body-room Nothing o = tt
+    body_room (Phrase next end) o = room next end o
+    body_room Nothing o = tt
 
-    pub body-told : (inner r : Parsed) (l : List ℕ) → Tells (parse d (drop (k - n) ms) empty (tokens (drop (at + 3 * n) ws))) ws w post m inner
+    pub body_told : (inner r : Parsed) (l : List ℕ) → Tells (parse d (drop (k - n) ms) empty (tokens (drop (at + 3 * n) ws))) ws w post m inner
         → Bodied m inner n r l → Tells (operand d (drop k names) (tokens (drop at ws))) ws w post l r
     unfolding Tells Bodied
-    body-told (Phrase next end) r l o b = rw b.0 (body-phrase next end o l b.1)
-    body-told Nothing r l o b = rw b.0 (v.leads d ∙ ap (abstracted_by n) o ∙ by_nothing n)
+    body_told (Phrase next end) r l o b = rw b.0 (body_phrase next end o l b.1)
+    body_told Nothing r l o b = rw b.0 (v.leads d ∙ ap (abstracted_by n) o ∙ by_nothing n)

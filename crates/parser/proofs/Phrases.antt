@@ -75,8 +75,8 @@ module _ (ws : List ℕ) (at d : ℕ) (names₀ : List ℕ) (k : ℕ) (post₀ :
   })
 
   module _ (names post : List ℕ) (W : Waiting) (v : Carried ws at d names₀ k post₀ w names post W) where
-    pub carried-asks : Asks ws W.at names k post W.end
-    carried-asks = record {
+    pub carried_asks : Asks ws W.at names k post W.end
+    carried_asks = record {
       within = v.goes.within;
       few = q.few;
       space = omega (arith, q.space, v.post_length);
@@ -86,22 +86,22 @@ module _ (ws : List ℕ) (at d : ℕ) (names₀ : List ℕ) (k : ℕ) (post₀ :
       short = omega (arith, q.short, v.names_length);
     }
 
-    pub carried-nothing : operand d (drop k names) (tokens (drop W.at ws)) ≡ nothing → parse d (drop k names₀) empty (tokens (drop at ws)) ≡ nothing
+    pub carried_nothing : operand d (drop k names) (tokens (drop W.at ws)) ≡ nothing → parse d (drop k names₀) empty (tokens (drop at ws)) ≡ nothing
     unfolding follow
-    carried-nothing h = v.goes.leads ∙ ap (λ (z : Read). follow z (λ a s. more d (drop k names₀) v.goes.p (applied v.goes.f a) s)) (subst (λ (Γ : List ℕ). operand d Γ (tokens (drop W.at ws)) ≡ nothing) v.same h)
+    carried_nothing h = v.goes.leads ∙ ap (λ (z : Read). follow z (λ a s. more d (drop k names₀) v.goes.p (applied v.goes.f a) s)) (subst (λ (Γ : List ℕ). operand d Γ (tokens (drop W.at ws)) ≡ nothing) v.same h)
 
     module _ (m : List ℕ) (next e : ℕ) (o : Phrased (operand d (drop k names) (tokens (drop W.at ws))) ws W.end post m next e) where
       taken : length (postfix o.e) + 1 + 2 * W.at ≤ 2 * next
       taken = operand_took d (drop k names) ws W.at next o.e v.goes.within o.within o.leads
 
-      pub carried-further : W.at < next
-      carried-further = omega (arith, taken)
+      pub carried_further : W.at < next
+      carried_further = omega (arith, taken)
 
       front : take e m ≡ take w post₀ ++ (flat v.goes.p v.goes.f ++ postfix o.e)
       front = o.wrote.front ∙ ap (λ (l : List ℕ). l ++ postfix o.e) v.goes.front ∙ append_assoc (take w post₀) (flat v.goes.p v.goes.f) (postfix o.e)
 
-      pub carried-after : length m ≡ length post → AfterAsks ws next m e W
-      carried-after l = record {
+      pub carried_after : length m ≡ length post → AfterAsks ws next m e W
+      carried_after l = record {
         p = v.goes.p;
         f = v.goes.f;
         a = o.e;
@@ -127,9 +127,9 @@ module _ (ws : List ℕ) (at d : ℕ) (names₀ : List ℕ) (k : ℕ) (post₀ :
         stepped z = subst (Stepped d (drop k names₀) (more d (drop k names₀) v.goes.p (applied v.goes.f o.e) (tokens (drop next ws))) (take w post₀) ws l next) z
             (s v.goes.counts front)
 
-        pub carried-more : {U : Waiting} → r ≡ step.More U → (names' : List ℕ) → drop k names' ≡ drop k names → length names' ≡ length names
+        pub carried_more : {U : Waiting} → r ≡ step.More U → (names' : List ℕ) → drop k names' ≡ drop k names → length names' ≡ length names
             → length l ≡ length post → Carried ws at d names₀ k post₀ w names' l U × (W.at < U.at) × (U.at ≤ length ws)
-        carried-more z names' y u t =
+        carried_more z names' y u t =
             let g = stepped z in (
               record {
                 goes = record {
@@ -141,18 +141,18 @@ module _ (ws : List ℕ) (at d : ℕ) (names₀ : List ℕ) (k : ℕ) (post₀ :
                   leads = leads ∙ g.0.leads;
                   front = g.0.front;
                 };
-                later = omega (arith, v.later, carried-further, g.1);
+                later = omega (arith, v.later, carried_further, g.1);
                 same = y ∙ v.same;
                 names_length = u ∙ v.names_length;
                 post_length = t ∙ v.post_length;
               },
-              omega (arith, carried-further, g.1),
+              omega (arith, carried_further, g.1),
               g.0.within,
             )
 
-        pub carried-done : {b : ℕ} → r ≡ step.Done b → length l ≡ length post
+        pub carried_done : {b : ℕ} → r ≡ step.Done b → length l ≡ length post
             → Phrased (parse d (drop k names₀) empty (tokens (drop at ws))) ws w post₀ l next b
-        carried-done {b} z t =
+        carried_done {b} z t =
             let g = stepped z in
             let i : b ≤ length l = g.inside in
             let j : w ≤ length post₀ = omega (arith, q.room, q.space, q.within) in
@@ -167,5 +167,5 @@ module _ (ws : List ℕ) (at d : ℕ) (names₀ : List ℕ) (k : ℕ) (post₀ :
               };
             }
 
-        pub carried-broken : r ≡ step.Broken → parse d (drop k names₀) empty (tokens (drop at ws)) ≡ nothing
-        carried-broken z = leads ∙ stepped z
+        pub carried_broken : r ≡ step.Broken → parse d (drop k names₀) empty (tokens (drop at ws)) ≡ nothing
+        carried_broken z = leads ∙ stepped z

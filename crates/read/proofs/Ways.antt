@@ -29,15 +29,15 @@ module _ (w : List ℕ) (u : ℕ) (s l : List ℕ) where
   long_table h = refused (entry.too_long true w u s h)
 
   module _ (a : length w ≤ 131072) where
-    pub long-stack : 65536 < length s → whole (Refused Limits) w s ≡ read w u s l
-    long-stack h = refused (entry.long-stack true w u s refl a h)
+    pub long_stack : 65536 < length s → whole (Refused Limits) w s ≡ read w u s l
+    long_stack h = refused (entry.long_stack true w u s refl a h)
 
-    pub over-used : length w / 2 < u → whole (Refused Limits) w s ≡ read w u s l
-    over-used h = refused (go (leb (length s) 65536) refl)
+    pub over_used : length w / 2 < u → whole (Refused Limits) w s ≡ read w u s l
+    over_used h = refused (go (leb (length s) 65536) refl)
       where
         go : (z : Bool) → leb (length s) 65536 ≡ z → some Limits ≡ at_entry true w u s
-        go true e = entry.over-used true w u s refl a (leb-true (length s) 65536 e) h
-        go false e = entry.long-stack true w u s refl a (leb-false (length s) 65536 e)
+        go true e = entry.over_used true w u s refl a (leb-true (length s) 65536 e) h
+        go false e = entry.long_stack true w u s refl a (leb-false (length s) 65536 e)
 
   -- what the checks at entry said
   module _ (r : Checked) (e : refusal_of r ≡ at_entry true w u s) where

@@ -199,56 +199,56 @@ module _ {w₀ : List ℕ} {u₀ slots : ℕ} {ix₀ s₀ l : List ℕ} where
     many = have_length s held trees.1.1
 
     -- all of them have frames
-    pub held-frames : held * 3 ≤ length s
-    held-frames = omega (arith, y.frames_free, x.same_stack, many, pending_most l i trees.1.0)
+    pub held_frames : held * 3 ≤ length s
+    held_frames = omega (arith, y.frames_free, x.same_stack, many, pending_most l i trees.1.0)
 
     -- the next digit
     module _ (h : 0 < i) where
-      next-trees : (us : List Tree) × (pending (drop (i - 1) l) ≡ some us)
-      next-trees = pending_drop l (i - 1) (omega (arith, x.inside)) (whole_pending l y.tree_is)
+      next_trees : (us : List Tree) × (pending (drop (i - 1) l) ≡ some us)
+      next_trees = pending_drop l (i - 1) (omega (arith, x.inside)) (whole_pending l y.tree_is)
 
-      next-takes : Takes (get_or l (i - 1) 0) trees.0 next-trees.0
+      next_takes : Takes (get_or l (i - 1) 0) trees.0 next_trees.0
       unfolding pending
-      next-takes = takes (get_or l (i - 1) 0) trees.0 (rw (← trees.1.0) (ap pending (sym (drop_more l i h x.inside)) ∙ next-trees.1))
+      next_takes = takes (get_or l (i - 1) 0) trees.0 (rw (← trees.1.0) (ap pending (sym (drop_more l i h x.inside)) ∙ next_trees.1))
 
-      pub takes-digit : TakesDigit u s held (get_or l (i - 1) 0)
-      takes-digit =
+      pub takes_digit : TakesDigit u s held (get_or l (i - 1) 0)
+      takes_digit =
           record {
-            from_leaf = next-takes.from_leaf;
-            to_fork = next-takes.to_fork;
-            branches = omega (arith, next-takes.branches, many);
-            frames_held = held-frames;
+            from_leaf = next_takes.from_leaf;
+            to_fork = next_takes.to_fork;
+            branches = omega (arith, next_takes.branches, many);
+            frames_held = held_frames;
             in_use = have_inside s held trees.1.1;
           }
 
       -- its frame
-      pub digit-frame : (held - (get_or l (i - 1) 0 - 48)) * 3 < length s
-      digit-frame = omega (arith, y.frames_free, x.same_stack, many, next-takes.leaves, pending_most l (i - 1) next-trees.1)
+      pub digit_frame : (held - (get_or l (i - 1) 0 - 48)) * 3 < length s
+      digit_frame = omega (arith, y.frames_free, x.same_stack, many, next_takes.leaves, pending_most l (i - 1) next_trees.1)
 
       -- what its node leaves pending
       module _ (g : Got) (w' ix' : List ℕ)
           (e : keep (nodes_in s (held - (get_or l (i - 1) 0 - 48))) (got_by g w') ≡ lay_digit (get_or l (i - 1) 0) (awaits (record { words = w; used = u }) (nodes_in s held)))
           (f : ReadyGot g w' slots ix') where
-        next-laid : lay_digits t₀ (drop (i - 1) l) ≡ keep (nodes_in s (held - (get_or l (i - 1) 0 - 48))) (got_by g w')
+        next_laid : lay_digits t₀ (drop (i - 1) l) ≡ keep (nodes_in s (held - (get_or l (i - 1) 0 - 48))) (got_by g w')
         unfolding lay_digits t₀
-        next-laid = ap (lay_digits t₀) (drop_more l i h x.inside) ∙ ap (lay_digit (get_or l (i - 1) 0)) x.laid ∙ sym e
+        next_laid = ap (lay_digits t₀) (drop_more l i h x.inside) ∙ ap (lay_digit (get_or l (i - 1) 0)) x.laid ∙ sym e
 
-        pub none-laid : g ≡ Full → (keep [] (got_by Full w') ≡ lay_digits (record { words = w₀; used = u₀ }) l) × ReadyGot Full w' slots ix'
+        pub none_laid : g ≡ Full → (keep [] (got_by Full w') ≡ lay_digits (record { words = w₀; used = u₀ }) l) × ReadyGot Full w' slots ix'
         unfolding keep got_by ReadyGot t₀
-        none-laid q =
-            let p : lay_digits t₀ (drop (i - 1) l) ≡ no_place (record { words = w'; used = capacity w' }) = next-laid ∙ rw q in
+        none_laid q =
+            let p : lay_digits t₀ (drop (i - 1) l) ≡ no_place (record { words = w'; used = capacity w' }) = next_laid ∙ rw q in
             (sym (ap (lay_digits t₀) (sym (take-append-drop (i - 1) l)) ∙ full_digits t₀ (take (i - 1) l) (drop (i - 1) l) p), tt)
 
         module _ {n u' : ℕ} (q : g ≡ Node n u') where
-          node-laid : lay_digits t₀ (drop (i - 1) l) ≡ awaits (record { words = w'; used = u' }) (n ∷ nodes_in s (held - (get_or l (i - 1) 0 - 48)))
+          node_laid : lay_digits t₀ (drop (i - 1) l) ≡ awaits (record { words = w'; used = u' }) (n ∷ nodes_in s (held - (get_or l (i - 1) 0 - 48)))
           unfolding keep got_by
-          node-laid = next-laid ∙ rw q
+          node_laid = next_laid ∙ rw q
 
-          pub node-small : n < 4294967296
+          pub node_small : n < 4294967296
           unfolding t₀
-          node-small =
+          node_small =
               let k = node_ready f q in
-              let a = digits_trees r.fine (drop (i - 1) l) node-laid in
+              let a = digits_trees r.fine (drop (i - 1) l) node_laid in
               omega (arith, first_inside a.1.1.trees, k.fine.within, k.fine.short)
 
           pub laid_next : length w' ≡ length w → length ix' ≡ length ix
@@ -257,7 +257,7 @@ module _ {w₀ : List ℕ} {u₀ slots : ℕ} {ix₀ s₀ l : List ℕ} where
           laid_next a b =
               record {
                 inside = omega (arith, x.inside);
-                laid = node-laid ∙ ap (awaits (record { words = w'; used = u' })) (sym (nodes_more s (held - (get_or l (i - 1) 0 - 48)) n digit-frame));
+                laid = node_laid ∙ ap (awaits (record { words = w'; used = u' })) (sym (nodes_more s (held - (get_or l (i - 1) 0 - 48)) n digit_frame));
                 ready = node_ready f q;
                 same_words = a ∙ x.same_words;
                 same_stack = length-set s _ n ∙ x.same_stack;
@@ -266,19 +266,19 @@ module _ {w₀ : List ℕ} {u₀ slots : ℕ} {ix₀ s₀ l : List ℕ} where
 
     -- all digits are taken: one node is pending
     module _ (h : i ≤ 0) where
-      one-held : held ≡ 1
-      one-held =
+      one_held : held ≡ 1
+      one_held =
           let q : i ≡ 0 = omega arith in
           let p : pending l ≡ some trees.0 = ap (λ (j : ℕ). pending (drop j l)) (sym q) ∙ trees.1.0 in
           let e : trees.0 ≡ y.tree ∷ [] = cc (p, whole_pending l y.tree_is) in
           omega (arith, many, ap length e)
 
       pub one_frame : 0 < length s
-      one_frame = omega (arith, one-held, held-frames)
+      one_frame = omega (arith, one_held, held_frames)
 
       pub all_laid : {v : ℕ} → v ≡ get_or s 0 0 → (keep [] (got_by (Node v u) w) ≡ lay_digits (record { words = w₀; used = u₀ }) l) × ReadyGot (Node v u) w slots ix
       unfolding keep got_by ReadyGot nodes_in
       all_laid e =
           let q : i ≡ 0 = omega arith in
-          let p : lay_digits (record { words = w₀; used = u₀ }) l ≡ awaits (record { words = w; used = u }) (nodes_in s 1) = rw (q, one-held) at x.laid in
+          let p : lay_digits (record { words = w₀; used = u₀ }) l ≡ awaits (record { words = w; used = u }) (nodes_in s 1) = rw (q, one_held) at x.laid in
           (rw e (sym p), x.ready)

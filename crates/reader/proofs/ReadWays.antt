@@ -16,7 +16,7 @@ use Rattle.table.specs.declared.Made.TheVariants.{Refused}
 use Rattle.checks.specs.declared.Checked.{Checked}
 use Rattle.checks.specs.declared.Checked.TheVariants as checked
 use Rattle.checks.specs.Code.{checked_with, frames_for}
-use Rattle.checks.proofs.Room.{has_room, refused-within, laid-within}
+use Rattle.checks.proofs.Room.{has_room, refused_within, laid_within_lem}
 use Rattle.ternary.specs.Laying.{keep, lay_digits}
 use Rattle.ternary.specs.Read.{readable, is_some, read_tree}
 use Rattle.ternary.proofs.Laying.{digits_whole}
@@ -49,30 +49,30 @@ module _ (w : List ℕ) (u : ℕ) (s l : List ℕ) (slots : ℕ) (ix : List ℕ)
       unfolding ScanSays
       tree = q.0
 
-      is-tree : laid_within w u s m tree ≡ read_tree w u s l (readable l)
+      is_tree : laid_within w u s m tree ≡ read_tree w u s l (readable l)
       unfolding readable read_tree ScanSays tree
-      is-tree = ap (λ (n : ℕ). laid_within w u s n tree) q.2 ∙ rw (le-leb (length l) 65535 h, q.1)
+      is_tree = ap (λ (n : ℕ). laid_within w u s n tree) q.2 ∙ rw (le-leb (length l) 65535 h, q.1)
 
       -- what the check for frames said, and the stack that it left
       module _ {r : Checked} {z : List ℕ} (e : checked_with r z ≡ frames_for s m) where
         pub no_frames : {c : Refusal} → r ≡ checked.Refused c → (whole (Refused c) w z ≡ read_tree w u s l (readable l)) × ReadyMade (Refused c) w slots ix
         unfolding ReadyMade
-        no_frames p = (refused-within s m e w u tree p ∙ is-tree, tt)
+        no_frames p = (refused_within s m e w u tree p ∙ is_tree, tt)
 
         module _ (p : r ≡ checked.Passed) where
-          pub lays-text : LaysText z l
+          pub lays_text : LaysText z l
           unfolding ScanSays
-          lays-text = let n = has_room s m e p in record { tree = q.0; tree_is = q.1; frames_free = rw n.same (omega (arith, q.2, n.frames_free)) }
+          lays_text = let n = has_room s m e p in record { tree = q.0; tree_is = q.1; frames_free = rw n.same (omega (arith, q.2, n.frames_free)) }
 
           -- what the digits came to, and what was settled with the stack that they left
-          pub is-laid : (g : Got) (w' y : List ℕ) → keep [] (got_by g w') ≡ lay_digits (record { words = w; used = u }) l → ReadyGot g w' slots ix → length y ≡ length z
+          pub is_laid : (g : Got) (w' y : List ℕ) → keep [] (got_by g w') ≡ lay_digits (record { words = w; used = u }) l → ReadyGot g w' slots ix → length y ≡ length z
               → {a : Made} {w'' s'' : List ℕ} → whole a w'' s'' ≡ settled u y (got_by g w') → (whole a w'' s'' ≡ read_tree w u s l (readable l)) × ReadyMade a w'' slots ix
           unfolding laid ScanSays tree
-          is-laid g w' y d f k t =
+          is_laid g w' y d f k t =
               let n = has_room s m e p in (
                 t ∙ settled_same u y s (got_by g w') (k ∙ ap length n.same)
                     ∙ ap (settled u s) (digits_whole (record { words = w; used = u }) l q.1 d)
-                    ∙ laid-within s m e w u q.0 p ∙ is-tree,
+                    ∙ laid_within_lem s m e w u q.0 p ∙ is_tree,
                 settled_ready g w' y u slots ix t f,
               )
 
@@ -83,10 +83,10 @@ module _ (l : List ℕ) where
   test_long h = rw (lt-leb (length l) 65535 h)
 
   module _ (h : length l ≤ 65535) where
-    pub test-broken : ScanSays l Broken → false ≡ is_some (readable l)
+    pub test_broken : ScanSays l Broken → false ≡ is_some (readable l)
     unfolding readable is_some ScanSays
-    test-broken e = rw (le-leb (length l) 65535 h, e)
+    test_broken e = rw (le-leb (length l) 65535 h, e)
 
-    pub test-whole : (m : ℕ) → ScanSays l (Whole m) → true ≡ is_some (readable l)
+    pub test_whole : (m : ℕ) → ScanSays l (Whole m) → true ≡ is_some (readable l)
     unfolding readable is_some ScanSays
-    test-whole m q = rw (le-leb (length l) 65535 h, q.1)
+    test_whole m q = rw (le-leb (length l) 65535 h, q.1)

@@ -156,16 +156,16 @@ module _ (n d at : ℕ) (s : List ℕ) (lt : at < length s) (le : length s - at 
   -- an abstraction, by what its body measures
   module _ (b : Measured) (q : get_or s at 0 ≡ 2) (h : d < 16)
       (B : (k : ℕ) → length s - (at + 1) ≤ k → b ≡ measured (at + 1) (d + 1) (parse k (d + 1) (drop (at + 1) s))) where
-    of-abs : {m : Measured} → ((P : Option Term) → b ≡ measured (at + 1) (suc d) P → m ≡ measured at d (abstraction P)) → m ≡ measured at d (parse n d (drop at s))
+    of_abs : {m : Measured} → ((P : Option Term) → b ≡ measured (at + 1) (suc d) P → m ≡ measured at d (abstraction P)) → m ≡ measured at d (parse n d (drop at s))
     unfolding parse
-    of-abs f =
+    of_abs f =
         let p = peel n d at 2 s lt le q in
         let e : d + 1 ≡ suc d = omega arith in
         rw (p.same, lt-ltb _ _ h) (f (parse p.m (suc d) (drop (at + 1) s)) (rw e at (B p.m p.enough)))
 
     pub no_body : b.next ≡ 0 → none_found ≡ measured at d (parse n d (drop at s))
     unfolding measured abstraction
-    no_body z = of-abs (λ P f. go P f)
+    no_body z = of_abs (λ P f. go P f)
       where
         go : (P : Option Term) → b ≡ measured (at + 1) (suc d) P → none_found ≡ measured at d (abstraction P)
         go none e = refl
@@ -173,7 +173,7 @@ module _ (n d at : ℕ) (s : List ℕ) (lt : at < length s) (le : length s - at 
 
     pub is_abs : {u : ℕ} → u ≡ leaf_weight d → (b.next ≡ 0 → ⊥) → ◌≡◌ {A = Measured} (record { next = b.next; weight = b.weight - 2 * u }) (measured at d (parse n d (drop at s)))
     unfolding measured abstraction bytes translate
-    is_abs {u} f nz = of-abs (λ P g. go P g)
+    is_abs {u} f nz = of_abs (λ P g. go P g)
       where
         go : (P : Option Term) → b ≡ measured (at + 1) (suc d) P → ◌≡◌ {A = Measured} (record { next = b.next; weight = b.weight - 2 * u }) (measured at d (abstraction P))
         go none e = absurd (nz (ap (λ (x : Measured). x.next) e))
@@ -185,9 +185,9 @@ module _ (n d at : ℕ) (s : List ℕ) (lt : at < length s) (le : length s - at 
   -- an application, by what its function part and its argument measure
   module _ (f : Measured) (q : get_or s at 0 ≡ 1)
       (F : (k : ℕ) → length s - (at + 1) ≤ k → f ≡ measured (at + 1) d (parse k d (drop (at + 1) s))) where
-    pub no-function : f.next ≡ 0 → none_found ≡ measured at d (parse n d (drop at s))
+    pub no_function : f.next ≡ 0 → none_found ≡ measured at d (parse n d (drop at s))
     unfolding parse measured argument
-    no-function z =
+    no_function z =
         let p = peel n d at 1 s lt le q in
         rw p.same (go (parse p.m d) (parse p.m d (drop (at + 1) s)) (F p.m p.enough))
       where
@@ -211,9 +211,9 @@ module _ (n d at : ℕ) (s : List ℕ) (lt : at < length s) (le : length s - at 
               let x : f.next ≡ at + 1 + length (bytes t) = ap (λ (x : Measured). x.next) e in
               g t (parse k d (drop (length (bytes t)) (drop (at + 1) s))) e (rw (drop-drop (length (bytes t)) (at + 1) s, ← x) r)
 
-      pub no-argument : a.next ≡ 0 → none_found ≡ measured at d (parse n d (drop at s))
+      pub no_argument : a.next ≡ 0 → none_found ≡ measured at d (parse n d (drop at s))
       unfolding measured application
-      no-argument z = of_app (λ t P e r. go t P e r)
+      no_argument z = of_app (λ t P e r. go t P e r)
         where
           go : (t : Term) (P : Option Term) → f ≡ measured (at + 1) d (some t) → a ≡ measured f.next d P → none_found ≡ measured at d (application t P)
           go t none e r = refl
@@ -275,9 +275,9 @@ module _ (s : List ℕ) where
     read : m ≡ measured 0 0 (parse (length s) 0 s)
     read = M (length s) (omega arith)
 
-    pub not-whole : (m.next ≡ length s → ⊥) → 0 ≡ size_of (rule s)
+    pub not_whole : (m.next ≡ length s → ⊥) → 0 ≡ size_of (rule s)
     unfolding whole measured
-    not-whole h = go (parse (length s) 0 s) refl read
+    not_whole h = go (parse (length s) 0 s) refl read
       where
         go : (P : Option Term) → parse (length s) 0 s ≡ P → m ≡ measured 0 0 P → 0 ≡ size_of (rule s)
         go none e r = no_rule none e refl
@@ -288,9 +288,9 @@ module _ (s : List ℕ) where
             no_rule (some (abs b)) e (rw (ne_eqb (length (bytes (abs b))) (length s) (λ q. h (omega arith))))
         go (some (var i)) e r = no_rule (some (var i)) e refl
 
-    found-rule : length s ≤ 4096 → m.next ≡ length s → (b : Term) → parse (length s) 0 s ≡ some (abs b) → m ≡ measured 0 0 (some (abs b)) → rule s ≡ some (abs b)
+    found_rule : length s ≤ 4096 → m.next ≡ length s → (b : Term) → parse (length s) 0 s ≡ some (abs b) → m ≡ measured 0 0 (some (abs b)) → rule s ≡ some (abs b)
     unfolding rule whole measured
-    found-rule short h b e r =
+    found_rule short h b e r =
         let x : length (bytes (abs b)) ≡ length s = omega (arith, ap (λ (x : Measured). x.next) r) in
         rw (le-leb _ _ short, e, eq-eqb _ _ x)
 
@@ -303,7 +303,7 @@ module _ (s : List ℕ) where
         go (some leaf) e r = absurd (omega (arith, first_byte leaf e))
         go (some (app f a)) e r = absurd (omega (arith, first_byte (app f a) e))
         go (some (abs b)) e r =
-            let k = found-rule short h b e r in
+            let k = found_rule short h b e r in
             let i = (rule_exact s (abs b)).0 k in
             rw k (ap (λ (x : Measured). x.weight) r ∙ weight_closed (translate (abs b)) (translate_within (abs b) 0 i.closed) ∙ sym (rule_size_lem i))
         go (some (var i)) e r = absurd (omega (arith, first_byte (var i) e))

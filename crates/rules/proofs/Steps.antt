@@ -70,9 +70,9 @@ module _ (m : Machine) (k : Uses) (w s : List ℕ) (a b : ℕ) {g : Got} (z : Li
       rw (make_full (record { words = w; used = m.used }) a b f.absent f.all_used, c)
 
   module _ (n u : ℕ) (q : g ≡ gets.Node n u) where
-    pub grow-got : (x : Turn) → x ≡ resume (record { words = z; used = u }) (frames_of s m.held) k n → x ≡ grow (state_of m w s) k a b
+    pub grow_got : (x : Turn) → x ≡ resume (record { words = z; used = u }) (frames_of s m.held) k n → x ≡ grow (state_of m w s) k a b
     unfolding grow grow_by got_by
-    grow-got x r = rw (← e, q) r
+    grow_got x r = rw (← e, q) r
 
     -- its number fits a word
     pub got_word : {i : ℕ} {ix : List ℕ} → Ready z u i ix → Sound (record { words = w; used = m.used }) → Unbroken m.used a b → n < 4294967296

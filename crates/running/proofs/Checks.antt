@@ -101,13 +101,13 @@ checks w s o l = go (lengths_fit w s o) refl
     arguments f e q (inl x) = passes {args = x.0} (record { fit = f; is_packet = e; is_rule = q; are_texts = x.1; label_reads = x.2 })
     arguments f e q (inr u) = no_text f e q u
 
-    of-rule : Fit w s o → {p : Packet} → packet l ≡ some p → (r : Option Term) → rule p.rule ≡ r → Checks w s o l
-    of-rule f e none q = no_rule f e q
-    of-rule f {p} e (some t) q = arguments f e q (read_texts p.arguments p.label)
+    of_rule : Fit w s o → {p : Packet} → packet l ≡ some p → (r : Option Term) → rule p.rule ≡ r → Checks w s o l
+    of_rule f e none q = no_rule f e q
+    of_rule f {p} e (some t) q = arguments f e q (read_texts p.arguments p.label)
 
     of_packet : Fit w s o → (r : Option Packet) → packet l ≡ r → Checks w s o l
     of_packet f none e = no_packet f e
-    of_packet f (some p) e = of-rule f e (rule p.rule) refl
+    of_packet f (some p) e = of_rule f e (rule p.rule) refl
 
     go : (b : Bool) → lengths_fit w s o ≡ b → Checks w s o l
     go true e = of_packet (true_fit w s o e) (packet l) refl
@@ -130,20 +130,20 @@ module _ {w s o : List ℕ} (l : List ℕ) where
 
   module _ (fit : Fit w s o) where
     -- "6: packet broken."
-    pub run-broken-packet : packet l ≡ none → run w s o l ≡ whole_out (Refused refusal.Packet) w s o
+    pub run_broken_packet : packet l ≡ none → run w s o l ≡ whole_out (Refused refusal.Packet) w s o
     unfolding run run_packet
-    run-broken-packet e = rw (fit_true fit, e)
+    run_broken_packet e = rw (fit_true fit, e)
 
     -- "5: its rule."
-    pub run-bad-rule : {p : Packet} → packet l ≡ some p → rule p.rule ≡ none → run w s o l ≡ whole_out (Refused refusal.Rule) w s o
+    pub run_bad_rule : {p : Packet} → packet l ≡ some p → rule p.rule ≡ none → run w s o l ≡ whole_out (Refused refusal.Rule) w s o
     unfolding run run_packet
-    run-bad-rule {p} e q = rw (fit_true fit, e, rule_lacks p q)
+    run_bad_rule {p} e q = rw (fit_true fit, e, rule_lacks p q)
 
     -- "4: its arguments' texts, first to last.", and then the label's ([1])
-    pub run-bad-text : {p : Packet} → packet l ≡ some p → {t : Term} → rule p.rule ≡ some t → Unreadable (texts p)
+    pub run_bad_text : {p : Packet} → packet l ≡ some p → {t : Term} → rule p.rule ≡ some t → Unreadable (texts p)
         → run w s o l ≡ whole_out (Refused refusal.Text) w s o
     unfolding run run_packet
-    run-bad-text {p} e q u = rw (fit_true fit, e, texts_lack p q u)
+    run_bad_text {p} e q u = rw (fit_true fit, e, texts_lack p q u)
 
 -- "Then Translate, Read of each argument, Apply in order under one step limit, Write, each with its 7 to 10.": what the stages come to, and what is told of them.
 pub tell_checked : {w s o l : List ℕ} {p : Packet} {t : Term} {args : List Tree} → Checked w s o l p t args → Tells w s o p t args (tell w s o l) (run w s o l)
@@ -165,9 +165,9 @@ checking w s o l = go (checks w s o l)
   where
     go : Checks w s o l → Checking w s o l
     go (too_long h) = fails (refuses.too_long h (run_long l h))
-    go (no_packet f e) = fails (refuses.no_packet f e (run-broken-packet l f e))
-    go (no_rule f e q) = fails (refuses.no_rule f e q (run-bad-rule l f e q))
-    go (no_text f e q u) = fails (refuses.no_text f e q u (run-bad-text l f e q u))
+    go (no_packet f e) = fails (refuses.no_packet f e (run_broken_packet l f e))
+    go (no_rule f e q) = fails (refuses.no_rule f e q (run_bad_rule l f e q))
+    go (no_text f e q u) = fails (refuses.no_text f e q u (run_bad_text l f e q u))
     go (passes c) = goes_on c
 
 -- What is told of a packet: where a check refuses it, its number alone; else what the stages come to.

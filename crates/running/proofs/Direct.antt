@@ -49,9 +49,9 @@ module _ (w s o l : List ℕ) (m u n : ℕ) (k : Uses) where
   unfolding Translated ran_numbers ran_uses end_table
   run_direct q = go (checking w s o l)
     where
-      of-stages : {p : Packet} {t : Term} {args : List Tree} {at : Stop} → Checked w s o l p t args → Staged w s o p t args (run w s o l) at → Completes w s o l m u n k
-      of-stages c (stops h b e i) = zero_one (cc)
-      of-stages {p} {t} {args} c (ends {r = r} {k = j} {z = z} h e no_stop) =
+      of_stages : {p : Packet} {t : Term} {args : List Tree} {at : Stop} → Checked w s o l p t args → Staged w s o p t args (run w s o l) at → Completes w s o l m u n k
+      of_stages c (stops h b e i) = zero_one (cc)
+      of_stages {p} {t} {args} c (ends {r = r} {k = j} {z = z} h e no_stop) =
           let a : j ≡ k = cc in
           let i : m ≡ steps k = rw (← a) (cc) in
           let b : z.used ≡ u = cc in
@@ -98,7 +98,7 @@ module _ (w s o l : List ℕ) (m u n : ℕ) (k : Uses) where
 
       go : Checking w s o l → Completes w s o l m u n k
       go (fails r) = zero_one (cc (refuses_with r))
-      go (goes_on c) = of-stages c (run_checked c)
+      go (goes_on c) = of_stages c (run_checked c)
 
 -- "Their sum is the steps" ([5]), refused or not
 pub run_sum : (w s o l : List ℕ) → (ran_numbers (run w s o l).answer).steps ≡ steps (ran_uses (run w s o l).answer)

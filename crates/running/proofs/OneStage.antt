@@ -33,7 +33,7 @@ use Rattle.ternary.proofs.Reading.{some_readable, read_lacks, read_gives}
 use Rattle.ternary.proofs.Writes.{write_case}
 use Rattle.translation.specs.Translate.{translate}
 use Rattle.translation.specs.Lacks.{Lacks}
-use Rattle.translation.proofs.Translates.{translate_gives, translate-lacks}
+use Rattle.translation.proofs.Translates.{translate_gives, translate_lacks}
 use Rattle.running.specs.Run.{stopped, after_written, writes}
 use Rattle.running.specs.Claims.{Fit, TranslateStops, translate_nodes, translate_frames, TranslateHad, ReadStops, no_nodes, no_frames}
 use Rattle.running.specs.declared.Ran.{Ran}
@@ -133,7 +133,7 @@ translating {w} {s} {o} fit b t is_rule = go r.answer refl
           used_most = omega (arith, g.lays.used_most, ap (λ (x : Term). size (rule_tree x)) c);
         })
     go (made.Refused e) q =
-        let a = lacked (translate-lacks w 0 s b e q) in
+        let a = lacked (translate_lacks w 0 s b e q) in
         not_translated e a.made q a.stops (stop_here st {m = a.made} a.back r.stack a.stack)
 
 -- ---- Read of one text

@@ -11,14 +11,14 @@ use Rattle.running.specs.Run.{run}
 use Rattle.running.specs.declared.Ran.{Ran}
 use Rattle.running.specs.declared.Ran.TheVariants.{Refused}
 use Rattle.running.specs.Claims.{Fit}
-use Rattle.running.proofs.Checks.{run-broken-packet}
+use Rattle.running.proofs.Checks.{run_broken_packet}
 use Rattle.running.proofs.Refused.{run_packet_lem}
 
 module _ (w s o l : List ℕ) (bytes : Bytes l) where
   -- "6: packet broken." (Operations, Run) "Anything else, or more than 16,384 bytes, is 6." (The packet) Where the bytes are no packet, the whole
   -- outcome is 6, and lent memory is as found.
   pub no_packet_run : Fit w s o → NoPacket l → run w s o l ≡ whole_out (Refused refusal.Packet) w s o
-  no_packet_run fit n = run-broken-packet l fit ((no_packet_exact l bytes).1 n)
+  no_packet_run fit n = run_broken_packet l fit ((no_packet_exact l bytes).1 n)
 
   -- 6 comes exactly where the lengths fit and the bytes are no packet.
   pub run_packet_exact : ((run w s o l).answer ≡ Refused refusal.Packet) ↔ (Fit w s o × NoPacket l)

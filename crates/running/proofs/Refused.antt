@@ -27,7 +27,7 @@ use Rattle.running.specs.declared.Ran.TheVariants.{Refused}
 use Rattle.running.specs.declared.Stop.{Stop}
 use Rattle.running.proofs.Outcomes.{Staged}
 use Rattle.running.proofs.Outcomes as outcomes
-use Rattle.running.proofs.Checks.{run_long, run-broken-packet, run-bad-rule, run-bad-text, run_checked, Checking, fails, goes_on, checking}
+use Rattle.running.proofs.Checks.{run_long, run_broken_packet, run_bad_rule, run_bad_text, run_checked, Checking, fails, goes_on, checking}
 
 -- a stage stops for nodes, frames or out bytes, or an application for steps
 pub stops_by : (P : Refusal → Type 0) {w s o : List ℕ} {p : Packet} {t : Term} {args : List Tree}
@@ -80,13 +80,13 @@ module _ (w s o l : List ℕ) where
       by : {c : Refusal} → Refuses w s o l (run w s o l) c → Refuses w s o l (run w s o l) e
       by {c} r = let a : c ≡ e = cc (refuses_with r) in rw (← a) r
 
-      of-stages : {p : Packet} {t : Term} {args : List Tree} {at : Stop} → Checked w s o l p t args → Staged w s o p t args (run w s o l) at → Refuses w s o l (run w s o l) e
-      of-stages c (outcomes.stops h k r i) = by (stops c h k r)
-      of-stages c (outcomes.ends h r i) = zero_one (cc)
+      of_stages : {p : Packet} {t : Term} {args : List Tree} {at : Stop} → Checked w s o l p t args → Staged w s o p t args (run w s o l) at → Refuses w s o l (run w s o l) e
+      of_stages c (outcomes.stops h k r i) = by (stops c h k r)
+      of_stages c (outcomes.ends h r i) = zero_one (cc)
 
       go : Checking w s o l → Refuses w s o l (run w s o l) e
       go (fails r) = by r
-      go (goes_on c) = of-stages c (run_checked c)
+      go (goes_on c) = of_stages c (run_checked c)
 
   -- "the out bytes stay as at entry"
   pub refused_out : (e : Refusal) → (run w s o l).answer ≡ Refused e → (run w s o l).out ≡ o
@@ -161,7 +161,7 @@ module _ (w s o l : List ℕ) where
   -- "6: packet broken."
   pub run_packet_lem : ((run w s o l).answer ≡ Refused refusal.Packet) ↔ (Fit w s o × (packet l ≡ none))
   unfolding clears number
-  run_packet_lem = (λ q. go (run_refused refusal.Packet q), λ h. ap (λ (x : Outcome Ran). x.answer) (run-broken-packet l h.0 h.1))
+  run_packet_lem = (λ q. go (run_refused refusal.Packet q), λ h. ap (λ (x : Outcome Ran). x.answer) (run_broken_packet l h.0 h.1))
     where
       go : Refuses w s o l (run w s o l) refusal.Packet → Fit w s o × (packet l ≡ none)
       go (no_packet f h r) = (f, h)
@@ -170,7 +170,7 @@ module _ (w s o l : List ℕ) where
   -- "5: its rule."
   pub run_rule : ((run w s o l).answer ≡ Refused Rule) ↔ BadRule w s o l
   unfolding clears number
-  run_rule = (λ q. go (run_refused Rule q), λ h. ap (λ (x : Outcome Ran). x.answer) (run-bad-rule l h.0 h.2 h.3))
+  run_rule = (λ q. go (run_refused Rule q), λ h. ap (λ (x : Outcome Ran). x.answer) (run_bad_rule l h.0 h.2 h.3))
     where
       go : Refuses w s o l (run w s o l) Rule → BadRule w s o l
       go (no_rule f {p = p} h k r) = (f, p, h, k)
@@ -179,7 +179,7 @@ module _ (w s o l : List ℕ) where
   -- "4: its arguments' texts, first to last.", and then the label's ([1])
   pub run_text : ((run w s o l).answer ≡ Refused Text) ↔ BadText w s o l
   unfolding clears number
-  run_text = (λ q. go (run_refused Text q), λ h. ap (λ (x : Outcome Ran). x.answer) (run-bad-text l h.0 h.2 h.4 h.5))
+  run_text = (λ q. go (run_refused Text q), λ h. ap (λ (x : Outcome Ran). x.answer) (run_bad_text l h.0 h.2 h.4 h.5))
     where
       go : Refuses w s o l (run w s o l) Text → BadText w s o l
       go (no_text f {p = p} h {t = t} k u r) = (f, p, h, t, k, u)

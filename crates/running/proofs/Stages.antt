@@ -127,14 +127,14 @@ module _ {w s o : List ℕ} (fit : Fit w s o) (p : Packet) (t : Term) (args : Li
           }
 
   module _ (limited : p.limit ≤ 1000000) where
-    applies-staged : (ns : List ℕ) (i : ℕ) {after : List Tree} {z : Table} {y : List ℕ} {v : ℕ} {k : Uses} {before : List Tree} → HasAll z ns after → Applying w s p t args z y v k before ns
+    applies_staged : (ns : List ℕ) (i : ℕ) {after : List Tree} {z : Table} {y : List ℕ} {v : ℕ} {k : Uses} {before : List Tree} → HasAll z ns after → Applying w s p t args z y v k before ns
         → args ≡ before ++ after → i ≡ length before + 1
         → Tells w s o p t args (tell_applies i ns p.limit z.words z.used y o v k) (applies ns p.limit z.words z.used y o v k)
     unfolding applies after_applied tell_applies after_ended applied_of apply_ended stop_of
-    applies-staged [] i {z = z} {y = y} {v = v} {k = k} {before = before} no_more a m place =
+    applies_staged [] i {z = z} {y = y} {v = v} {k = k} {before = before} no_more a m place =
         writes_staged (subst (λ (b : List Tree). Applying w s p t args z y v k b []) (sym (m ∙ append-nil before)) a)
-    applies-staged (n ∷ ns) i {z = z} {y = y} {v = v} {k = k} {before = before} (and_then {x = x} {xs = xs} h hs) a m place = rw (← same) (go r.answer refl
-        (λ (z : Table) (y : List ℕ) (v : ℕ) (k : Uses) (before : List Tree). applies-staged ns (i + 1) {after = xs} {z = z} {y = y} {v = v} {k = k} {before = before}))
+    applies_staged (n ∷ ns) i {z = z} {y = y} {v = v} {k = k} {before = before} (and_then {x = x} {xs = xs} h hs) a m place = rw (← same) (go r.answer refl
+        (λ (z : Table) (y : List ℕ) (v : ℕ) (k : Uses) (before : List Tree). applies_staged ns (i + 1) {after = xs} {z = z} {y = y} {v = v} {k = k} {before = before}))
       where
         st : Stands w s z y
         st = a.stands
@@ -282,7 +282,7 @@ module _ {w s o : List ℕ} (fit : Fit w s o) (p : Packet) (t : Term) (args : Li
           (λ e m k. (in_read g.had k, refl))
           (λ ns w'' u'' s''. tell_applies 1 ns p.limit w'' u'' s'' o v no_uses)
           (λ ns w'' u'' s''. applies ns p.limit w'' u'' s'' o v no_uses)
-          (λ ns z' y' st' k hs i a. applies-staged limited ns 1 hs (record {
+          (λ ns z' y' st' k hs i a. applies_staged limited ns 1 hs (record {
             stands = st';
             tree = rule_tree t;
             root = stays g.stands.fine k g.root;

@@ -44,7 +44,7 @@ pub back_cleared : {w : List ℕ} {t : Table} {m : ℕ} {x : List ℕ} → Exten
     → cleared x 0 (t.used * 2) ≡ cleared w 0 (m * 2)
 back_cleared {w} {t} {m} {x} e b =
     rw b.words_are
-    (ext_get_or 0 (cleared y 0 a) (cleared w 0 c) (p ∙ y-length ∙ e.kept.same_length ∙ sym q)
+    (ext_get_or 0 (cleared y 0 a) (cleared w 0 c) (p ∙ y_length ∙ e.kept.same_length ∙ sym q)
     (λ (i : ℕ) (h : i < length (cleared y 0 a)). go i (ltb i a) (ltb i c) refl refl))
   where
     a : ℕ
@@ -62,36 +62,36 @@ back_cleared {w} {t} {m} {x} e b =
     long : c ≤ length t.words
     long = omega (arith, b.within)
 
-    y-length : length y ≡ length t.words
-    y-length = length_cleared t.words a c up long
+    y_length : length y ≡ length t.words
+    y_length = length_cleared t.words a c up long
 
     within : a ≤ length y
-    within = omega (arith, y-length, up, long)
+    within = omega (arith, y_length, up, long)
 
-    all-within : c ≤ length w
-    all-within = omega (arith, e.kept.same_length, long)
+    all_within : c ≤ length w
+    all_within = omega (arith, e.kept.same_length, long)
 
     p : length (cleared y 0 a) ≡ length y
     p = length_cleared y 0 a (omega arith) within
 
     q : length (cleared w 0 c) ≡ length w
-    q = length_cleared w 0 c (omega arith) all-within
+    q = length_cleared w 0 c (omega arith) all_within
 
     go : (i : ℕ) (f g : Bool) → ltb i a ≡ f → ltb i c ≡ g → get_or (cleared y 0 a) i 0 ≡ get_or (cleared w 0 c) i 0
     go i true g d f =
         let h = ltb-true i a d in
-        cleared_inside y 0 a i (omega arith) h within ∙ sym (cleared_inside w 0 c i (omega arith) (omega (arith, up)) all-within)
+        cleared_inside y 0 a i (omega arith) h within ∙ sym (cleared_inside w 0 c i (omega arith) (omega (arith, up)) all_within)
     go i false true d f =
         let h = ltb-false i a d in
         let k = ltb-true i c f in
-        cleared_beyond y 0 a i (omega arith) h within ∙ cleared_inside t.words a c i h k long ∙ sym (cleared_inside w 0 c i (omega arith) k all-within)
+        cleared_beyond y 0 a i (omega arith) h within ∙ cleared_inside t.words a c i h k long ∙ sym (cleared_inside w 0 c i (omega arith) k all_within)
     go i false false d f =
         let h = ltb-false i a d in
         let k = ltb-false i c f in
         cleared_beyond y 0 a i (omega arith) h within
         ∙ cleared_beyond t.words a c i up k long
         ∙ e.beyond i h
-        ∙ sym (cleared_beyond w 0 c i (omega arith) k all-within)
+        ∙ sym (cleared_beyond w 0 c i (omega arith) k all_within)
 
 -- an application that passed its checks and is refused with e, having left the words x and the stack y
 pub record Halted (w : List ℕ) (u : ℕ) (s : List ℕ) (f n limit : ℕ) (e : Refusal) (x y : List ℕ) : Type 0 where

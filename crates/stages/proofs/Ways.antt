@@ -124,22 +124,22 @@ module _ {nodes : List ℕ} {count limit : ℕ} {o w₀ : List ℕ} {u₀ : ℕ}
         rw (drop-cons (take count nodes) i 0 n, get_or-take count nodes i 0 h, add-one i)
 
     module _ {a : Ended} {z y : List ℕ} (e : whole a z y ≡ apply_ended w u s v (get_or nodes i 0) (limit - steps k)) where
-      is-apply : whole (applied_of a) z y ≡ apply w u s v (get_or nodes i 0) (limit - steps k)
-      is-apply =
+      is_apply : whole (applied_of a) z y ≡ apply w u s v (get_or nodes i 0) (limit - steps k)
+      is_apply =
           ap (answered applied_of) e
           ∙ apply_told (limit - steps k) (entered_by p.ready (le-leb (limit - steps k) 1000000 (omega (arith, p.limited)))) p.function_in argument_in
 
-      pub applies-stop : {x : Outcome Told} {c : Refusal} {j m : ℕ} {d : Rule} → m ≡ steps k → a ≡ ended.Stopped c j d → x ≡ tell_at (At (i + 1) (m + j) d) (stopped c z u y o)
+      pub applies_stop : {x : Outcome Told} {c : Refusal} {j m : ℕ} {d : Rule} → m ≡ steps k → a ≡ ended.Stopped c j d → x ≡ tell_at (At (i + 1) (m + j) d) (stopped c z u y o)
           → x ≡ tell_applies 1 (take count nodes) limit w₀ u₀ s₀ o v₀ no_uses
       unfolding tell_applies after_ended
-      applies-stop {x} n q g =
+      applies_stop {x} n q g =
           let b : x ≡ tell_applies (i + 1) (drop i (take count nodes)) limit w u s o v k = rw (first, ← e, q, ← n) g in
           b ∙ p.rest
 
       -- the steps at a stop are within the limit
-      pub stop-steps : (c : Refusal) (j : ℕ) (d : Rule) → a ≡ ended.Stopped c j d → j ≤ 1000000
+      pub stop_steps : (c : Refusal) (j : ℕ) (d : Rule) → a ≡ ended.Stopped c j d → j ≤ 1000000
       unfolding apply_ended application.ended outcome.stopped
-      stop-steps c j d q =
+      stop_steps c j d q =
           go (uses (frames s) (limit - steps k) (begin w u v (get_or nodes i 0))) (uses_steps (frames s) (limit - steps k) (begin w u v (get_or nodes i 0)))
           (sym q ∙ ap (λ (x : Outcome Ended). x.answer) e)
         where
@@ -149,18 +149,18 @@ module _ {nodes : List ℕ} {count limit : ℕ} {o w₀ : List ℕ} {u₀ : ℕ}
           go (stop f m) n r = let b : j ≡ steps m.uses = cc in omega (arith, p.limited, n.1)
 
       -- the steps that were left were enough for those that were taken
-      pub applies-steps : {v' u' m : ℕ} {j : Uses} → a ≡ ended.Node v' u' m j → steps k + steps j ≤ limit
+      pub applies_steps : {v' u' m : ℕ} {j : Uses} → a ≡ ended.Node v' u' m j → steps k + steps j ≤ limit
       unfolding applied_of
-      applies-steps {v'} {u'} {m} {j} q =
-          let f = apply_follows w u s v (get_or nodes i 0) (limit - steps k) v' u' m j (rw (← is-apply, q)) in
+      applies_steps {v'} {u'} {m} {j} q =
+          let f = apply_follows w u s v (get_or nodes i 0) (limit - steps k) v' u' m j (rw (← is_apply, q)) in
           omega (arith, f.steps_are, f.within_limit, p.within_limit)
 
-      pub applies-next : {v' u' m : ℕ} {j : Uses} {ix' : List ℕ} → a ≡ ended.Node v' u' m j → length y ≡ length s → length ix' ≡ length ix → ReadyEnded a z slots ix'
+      pub applies_next : {v' u' m : ℕ} {j : Uses} {ix' : List ℕ} → a ≡ ended.Node v' u' m j → length y ≡ length s → length ix' ≡ length ix → ReadyEnded a z slots ix'
           → Applying nodes count limit o w₀ u₀ s₀ v₀ slots ix₀ z y ix' v' u' (k ⊕ j) (i + 1)
       unfolding tell_applies after_ended applied_of
-      applies-next {v'} {u'} {m} {j} q l n x =
-          let f = apply_follows w u s v (get_or nodes i 0) (limit - steps k) v' u' m j (rw (← is-apply, q)) in
-          let t : (apply w u s v (get_or nodes i 0) (limit - steps k)).table ≡ z = rw (← is-apply) in
+      applies_next {v'} {u'} {m} {j} q l n x =
+          let f = apply_follows w u s v (get_or nodes i 0) (limit - steps k) v' u' m j (rw (← is_apply, q)) in
+          let t : (apply w u s v (get_or nodes i 0) (limit - steps k)).table ≡ z = rw (← is_apply) in
           let c : length z ≡ length w = ap length (sym t) ∙ f.extends.kept.same_length in
           let b : tell_applies (i + 1 + 1) (drop (i + 1) (take count nodes)) limit z u' y o v' (k ⊕ j) ≡ tell_applies (i + 1) (drop i (take count nodes)) limit w u s o v k =
           rw (first, ← e, q) in
@@ -170,7 +170,7 @@ module _ {nodes : List ℕ} {count limit : ℕ} {o w₀ : List ℕ} {u₀ : ℕ}
             inside = omega arith;
             few = p.few;
             limited = p.limited;
-            within_limit = omega (arith, applies-steps q);
+            within_limit = omega (arith, applies_steps q);
             function_in = f.inside;
             nodes_in_lem = λ n h. omega (arith, p.nodes_in_lem n h, f.extends.kept.up);
             same_table = c ∙ p.same_table;

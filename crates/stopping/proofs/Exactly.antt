@@ -57,26 +57,26 @@ module _ (w s o l : List ℕ) where
   unfolding stop_by stop_of
   stopped_at e i j c q = go (telling w s o l)
     where
-      by-stop : {p : Packet} {t : Term} {args : List Tree} → Checked w s o l p t args → {d : Refusal} {m : ℕ} (h : Stops w s o p t args d m)
+      by_stop : {p : Packet} {t : Term} {args : List Tree} → Checked w s o l p t args → {d : Refusal} {m : ℕ} (h : Stops w s o p t args d m)
           → stop_by (ran.Refused d) (stop_of h) ≡ Applying e i j c → StopsAt w s o l e i j c
-      by-stop k (in_translate h) r = alone (ran.Refused _) r
-      by-stop k (in_read h x) r = alone (ran.Refused _) r
-      by-stop k {d} (in_apply h g x m) r =
+      by_stop k (in_translate h) r = alone (ran.Refused _) r
+      by_stop k (in_read h x) r = alone (ran.Refused _) r
+      by_stop k {d} (in_apply h g x m) r =
           let e₁ : d ≡ e = cc in
           let i₁ : length x.before + 1 ≡ i = cc in
           let j₁ : steps x.k + steps x.state.uses ≡ j = cc in
           let c₁ : kind (wanted x.state) ≡ c = cc in
           rw (e₁, i₁, j₁, c₁) at (stops_at k h g x)
-      by-stop k (in_write h g x b y m n) r = alone (ran.Refused _) r
+      by_stop k (in_write h g x b y m n) r = alone (ran.Refused _) r
 
-      by-stage : {p : Packet} {t : Term} {args : List Tree} → Checked w s o l p t args → {a : Stop} → (tell w s o l).answer.stop ≡ a → Staged w s o p t args (run w s o l) a
+      by_stage : {p : Packet} {t : Term} {args : List Tree} → Checked w s o l p t args → {a : Stop} → (tell w s o l).answer.stop ≡ a → Staged w s o p t args (run w s o l) a
           → StopsAt w s o l e i j c
-      by-stage k f (stops h b m r) = by-stop k h (sym (answer_by (ap (λ (x : Outcome Ran). x.answer) m) (f ∙ r)) ∙ q)
-      by-stage k f (ends {r = x} {k = j} {z = z} h m r) = alone (ran.Text (steps j) z.used (length (text x)) j) (sym (answer_by (ap (λ (x : Outcome Ran). x.answer) m) (f ∙ r)) ∙ q)
+      by_stage k f (stops h b m r) = by_stop k h (sym (answer_by (ap (λ (x : Outcome Ran). x.answer) m) (f ∙ r)) ∙ q)
+      by_stage k f (ends {r = x} {k = j} {z = z} h m r) = alone (ran.Text (steps j) z.used (length (text x)) j) (sym (answer_by (ap (λ (x : Outcome Ran). x.answer) m) (f ∙ r)) ∙ q)
 
       go : Telling w s o l → StopsAt w s o l e i j c
       go (early m) = alone (run w s o l).answer (sym (answer_by refl (ap (λ (x : Outcome Told). x.answer.stop) m)) ∙ q)
-      go (staged k) = by-stage k refl (tell_checked k).staged
+      go (staged k) = by_stage k refl (tell_checked k).staged
 
 -- the uses up to the limit halt where the use lacks something
 led_halts : {all limit m : ℕ} (b : State) {y : State} {e : Refusal} → uses all m b ≡ more y → LacksFirst all limit m y e → (x : Turn) × (uses all limit b ≡ x) × Halted x e y

@@ -208,53 +208,53 @@ module _ (e : Expression) (xs post : List ℕ) (p : ℕ) (h : take p post ≡ xs
   has_symbol = (last_of e xs post p h w).some
 
   module _ (b : Binary e) where
-    pub right-stands : take (p - 1) post ≡ (xs ++ postfix b.f) ++ postfix b.a
-    right-stands = (last_of e xs post p h w).rest ∙ ap (λ (l : List ℕ). xs ++ l) b.parts ∙ sym (append_assoc xs (postfix b.f) (postfix b.a))
+    pub right_stands : take (p - 1) post ≡ (xs ++ postfix b.f) ++ postfix b.a
+    right_stands = (last_of e xs post p h w).rest ∙ ap (λ (l : List ℕ). xs ++ l) b.parts ∙ sym (append_assoc xs (postfix b.f) (postfix b.a))
 
-    pub left-stands : (n : ℕ) → n ≡ length (xs ++ postfix b.f) → take n post ≡ xs ++ postfix b.f
-    left-stands n z = ap (λ (i : ℕ). take i post) z ∙ beginning post (p - 1) (xs ++ postfix b.f) (postfix b.a) right-stands (omega arith)
+    pub left_stands : (n : ℕ) → n ≡ length (xs ++ postfix b.f) → take n post ≡ xs ++ postfix b.f
+    left_stands n z = ap (λ (i : ℕ). take i post) z ∙ beginning post (p - 1) (xs ++ postfix b.f) (postfix b.a) right_stands (omega arith)
 
     pub left_less : (n : ℕ) → n ≡ length (xs ++ postfix b.f) → n < p
     left_less n z =
-        omega (arith, ap length right-stands, length-take-le (p - 1) post (omega arith), length-append (xs ++ postfix b.f) (postfix b.a), has_symbol)
+        omega (arith, ap length right_stands, length-take-le (p - 1) post (omega arith), length-append (xs ++ postfix b.f) (postfix b.a), has_symbol)
 
   module _ (u : Unary e) where
-    pub only-stands : take (p - 1) post ≡ xs ++ postfix u.a
-    only-stands = (last_of e xs post p h w).rest ∙ ap (λ (l : List ℕ). xs ++ l) u.parts
+    pub only_stands : take (p - 1) post ≡ xs ++ postfix u.a
+    only_stands = (last_of e xs post p h w).rest ∙ ap (λ (l : List ℕ). xs ++ l) u.parts
 
   module _ (t : Atom e) where
-    pub atom-begins : p - 1 ≡ length xs
-    atom-begins =
+    pub atom_begins : p - 1 ≡ length xs
+    atom_begins =
         omega (arith, ap length (last_of e xs post p h w).rest, ap length t.parts, length-append xs (operands e), length-take-le (p - 1) post (omega arith))
 
 -- nesting
 module _ (e : Expression) (xs post : List ℕ) (p : ℕ) (h : take p post ≡ xs ++ postfix e) (w : p ≤ length post) where
   module _ (k : get_or post (p - 1) 0 < 4) where
-    pub deep-parts : Binary e
-    deep-parts = binary e (omega (arith, is_symbol e xs post p h w))
+    pub deep_parts : Binary e
+    deep_parts = binary e (omega (arith, is_symbol e xs post p h w))
 
-    pub deep-two : (i j n m r : ℕ) → Nests deep-parts.a (xs ++ postfix deep-parts.f) i n → Nests deep-parts.f xs j m → r ≡ max m n → Nests e xs j r
-    deep-two i j n m r x y z = record { begins = y.begins; deep = omega (arith, x.deep, y.deep, deep-parts.nest) }
+    pub deep_two : (i j n m r : ℕ) → Nests deep_parts.a (xs ++ postfix deep_parts.f) i n → Nests deep_parts.f xs j m → r ≡ max m n → Nests e xs j r
+    deep_two i j n m r x y z = record { begins = y.begins; deep = omega (arith, x.deep, y.deep, deep_parts.nest) }
 
   module _ (k : get_or post (p - 1) 0 ≡ 4) where
     pub deep_body : Unary e
     deep_body = unary e (omega (arith, is_symbol e xs post p h w)) (omega (arith, is_symbol e xs post p h w))
 
-    pub deep-abs : (i n : ℕ) → Nests deep_body.a xs i n → Nests e xs i (n + 1)
-    deep-abs i n x = record { begins = x.begins; deep = omega (arith, x.deep, deep_body.nest_abs (omega (arith, is_symbol e xs post p h w))) }
+    pub deep_abs : (i n : ℕ) → Nests deep_body.a xs i n → Nests e xs i (n + 1)
+    deep_abs i n x = record { begins = x.begins; deep = omega (arith, x.deep, deep_body.nest_abs (omega (arith, is_symbol e xs post p h w))) }
 
-    pub deep-few : (i n : ℕ) → Nests deep_body.a xs i n → n < p
-    deep-few i n x =
-        omega (arith, x.deep, nesting_few deep_body.a, ap length (only-stands e xs post p h w deep_body), length-append xs (postfix deep_body.a), length-take-le (p - 1) post (omega arith), has_symbol e xs post p h w)
+    pub deep_few : (i n : ℕ) → Nests deep_body.a xs i n → n < p
+    deep_few i n x =
+        omega (arith, x.deep, nesting_few deep_body.a, ap length (only_stands e xs post p h w deep_body), length-append xs (postfix deep_body.a), length-take-le (p - 1) post (omega arith), has_symbol e xs post p h w)
 
   module _ (k : get_or post (p - 1) 0 ≡ 5) where
-    pub deep-operand : Unary e
-    deep-operand = unary e (omega (arith, is_symbol e xs post p h w)) (omega (arith, is_symbol e xs post p h w))
+    pub deep_operand : Unary e
+    deep_operand = unary e (omega (arith, is_symbol e xs post p h w)) (omega (arith, is_symbol e xs post p h w))
 
-    pub deep-not : (i n : ℕ) → Nests deep-operand.a xs i n → Nests e xs i n
-    deep-not i n x = record { begins = x.begins; deep = omega (arith, x.deep, deep-operand.nest_not (omega (arith, is_symbol e xs post p h w))) }
+    pub deep_not : (i n : ℕ) → Nests deep_operand.a xs i n → Nests e xs i n
+    deep_not i n x = record { begins = x.begins; deep = omega (arith, x.deep, deep_operand.nest_not (omega (arith, is_symbol e xs post p h w))) }
 
   pub deep_none : 6 ≤ get_or post (p - 1) 0 → Nests e xs (p - 1) 0
   deep_none k =
       let t = atom e (omega (arith, is_symbol e xs post p h w)) in
-      record { begins = atom-begins e xs post p h w t; deep = omega (arith, t.nest) }
+      record { begins = atom_begins e xs post p h w t; deep = omega (arith, t.nest) }

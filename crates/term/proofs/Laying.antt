@@ -12,7 +12,7 @@ use Rattle.table.proofs.Making.{stem_words, fork_words, lay_places, then_got, th
 use Rattle.index.specs.Code.{got_by, ReadyGot}
 use Rattle.index.specs.declared.Got.{Got}
 use Rattle.index.specs.declared.Got.TheVariants.{Node, Full}
-use Rattle.index.proofs.Ready.{node-got, full-got}
+use Rattle.index.proofs.Ready.{node_got, full_got}
 use Rattle.bracket.specs.Words.{words, Holds}
 use Rattle.bracket.proofs.Standing.{left, right, head, tail, moved}
 
@@ -65,13 +65,13 @@ module _ (s : List ℕ) (p : ℕ) where
 -- the branches of a node that is wanted next are in use
 module _ {d : List ℕ} {n : ℕ} (f : Sound (record { words = d; used = n })) where
   pub stem_wants : (a : Tree) (m : Got) (d₁ : List ℕ) {i u : ℕ} → got_by m d₁ ≡ lay (record { words = d; used = n }) a → m ≡ Node i u → Unbroken u (i + 1) 0
-  stem_wants a m d₁ e q = stem_words (lay_places f a (node-got e q)).inside
+  stem_wants a m d₁ e q = stem_words (lay_places f a (node_got e q)).inside
 
   pub fork_wants : (a b : Tree) (m k : Got) (d₁ d₂ : List ℕ) {i j u v : ℕ} → got_by m d₁ ≡ lay (record { words = d; used = n }) b → m ≡ Node j u
       → got_by k d₂ ≡ lay (record { words = d₁; used = u }) a → k ≡ Node i v → Unbroken v (i + 1) (j + 1)
   fork_wants a b m k d₁ d₂ e q g r =
-      let p = lay_places f b (node-got e q) in
-      let o = lay_places p.fine a (node-got g r) in
+      let p = lay_places f b (node_got e q) in
+      let o = lay_places p.fine a (node_got g r) in
       fork_words o.inside (omega (arith, p.inside, o.extends.kept.up))
 
 -- where a node has no place, nothing is to say of the index
@@ -83,10 +83,10 @@ full_ready d o ix = tt
 module _ (m : Got) (d : List ℕ) {x : Making} (e : got_by m d ≡ x) (next : Placed → Making) where
   stops : m ≡ Full → got_by Full d ≡ and_then x next
   unfolding got_by
-  stops q = sym (then_full next (full-got e q))
+  stops q = sym (then_full next (full_got e q))
 
   goes_on : {i u : ℕ} → m ≡ Node i u → {y : Making} → y ≡ next (record { table = record { words = d; used = u }; node = i }) → y ≡ and_then x next
-  goes_on q g = g ∙ sym (then_got next (node-got e q))
+  goes_on q g = g ∙ sym (then_got next (node_got e q))
 
 module _ (s : List ℕ) (p : ℕ) (d : List ℕ) (n : ℕ) (t : Tree) (h : Holds s p (words (term t))) where
   pub lay_leaf : (r : Got) (d₁ : List ℕ) → get_or s p 0 ≡ 0 → got_by r d₁ ≡ make (record { words = d; used = n }) 0 0
@@ -96,24 +96,24 @@ module _ (s : List ℕ) (p : ℕ) (d : List ℕ) (n : ℕ) (t : Tree) (h : Holds
 
   module _ (m : Got) (d₁ : List ℕ) (e : get_or s p 0 ≡ 2)
       (A : (a : Tree) → Holds s (p + 2) (words (term a)) → got_by m d₁ ≡ lay (record { words = d; used = n }) a) where
-    pub stem-stops : m ≡ Full → got_by Full d₁ ≡ lay (record { words = d; used = n }) t
+    pub stem_stops : m ≡ Full → got_by Full d₁ ≡ lay (record { words = d; used = n }) t
     unfolding lay
-    stem-stops q =
+    stem_stops q =
         let k = is_stem_lem s p t h e in
         rw k.same (stops m d₁ (A k.branch k.only) (λ o. make o.table (o.node + 1) 0) q)
 
-    pub lay-stem : {i u : ℕ} → m ≡ Node i u → (r : Got) (d₂ : List ℕ) → got_by r d₂ ≡ make (record { words = d₁; used = u }) (i + 1) 0
+    pub lay_stem : {i u : ℕ} → m ≡ Node i u → (r : Got) (d₂ : List ℕ) → got_by r d₂ ≡ make (record { words = d₁; used = u }) (i + 1) 0
         → got_by r d₂ ≡ lay (record { words = d; used = n }) t
     unfolding lay
-    lay-stem q r d₂ g =
+    lay_stem q r d₂ g =
         let k = is_stem_lem s p t h e in
         rw k.same (goes_on m d₁ (A k.branch k.only) (λ o. make o.table (o.node + 1) 0) q g)
 
   module _ (m : Got) (d₁ : List ℕ) (z : get_or s p 0 ≡ 0 → ⊥) (e : get_or s p 0 ≡ 2 → ⊥)
       (B : (b : Tree) → Holds s (p + 1 + get_or s p 0 / 2) (words (term b)) → got_by m d₁ ≡ lay (record { words = d; used = n }) b) where
-    pub second-stops : m ≡ Full → got_by Full d₁ ≡ lay (record { words = d; used = n }) t
+    pub second_stops : m ≡ Full → got_by Full d₁ ≡ lay (record { words = d; used = n }) t
     unfolding lay
-    second-stops q =
+    second_stops q =
         let f = is_fork s p t h z e in
         rw f.same
         (stops m d₁ (B f.further f.second) (λ o. and_then (lay o.table f.branch) (λ y. make y.table (y.node + 1) (o.node + 1))) q)
@@ -128,10 +128,10 @@ module _ (s : List ℕ) (p : ℕ) (d : List ℕ) (n : ℕ) (t : Tree) (h : Holds
           (goes_on m d₁ (B f.further f.second) (λ o. and_then (lay o.table f.branch) (λ y. make y.table (y.node + 1) (o.node + 1))) q
           (stops k d₂ (A f.branch f.first) (λ y. make y.table (y.node + 1) (j + 1)) g))
 
-      pub lay-fork : {i v : ℕ} → k ≡ Node i v → (r : Got) (d₃ : List ℕ) → got_by r d₃ ≡ make (record { words = d₂; used = v }) (i + 1) (j + 1)
+      pub lay_fork : {i v : ℕ} → k ≡ Node i v → (r : Got) (d₃ : List ℕ) → got_by r d₃ ≡ make (record { words = d₂; used = v }) (i + 1) (j + 1)
           → got_by r d₃ ≡ lay (record { words = d; used = n }) t
       unfolding lay
-      lay-fork g r d₃ o =
+      lay_fork g r d₃ o =
           let f = is_fork s p t h z e in
           rw f.same
           (goes_on m d₁ (B f.further f.second) (λ y. and_then (lay y.table f.branch) (λ c. make c.table (c.node + 1) (y.node + 1))) q

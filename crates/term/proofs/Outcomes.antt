@@ -22,7 +22,7 @@ use Rattle.index.specs.Code.{ReadyMade}
 use Rattle.checks.specs.Code.{checked_with, frames_for}
 use Rattle.checks.specs.declared.Checked.{Checked}
 use Rattle.checks.specs.declared.Checked.TheVariants as checked
-use Rattle.checks.proofs.Room.{has_room, refused-within, laid-within}
+use Rattle.checks.proofs.Room.{has_room, refused_within, laid_within_lem}
 use Rattle.translation.specs.Translate.{translate_rule}
 use Rattle.rule_size.proofs.Sizes.{Sized}
 use Rattle.bracket.specs.Words.{words, Holds, run, Builds}
@@ -41,23 +41,23 @@ module _ (w : List ℕ) (u : ℕ) (s b : List ℕ) where
   refused_rule e = rw e
 
   module _ {n : ℕ} (k : Sized b n) where
-    of-rule : {o : Outcome Made} → o ≡ laid_within w u s (2 * n) (rule_tree k.term) → o ≡ translate_rule w u s (rule b)
+    of_rule : {o : Outcome Made} → o ≡ laid_within w u s (2 * n) (rule_tree k.term) → o ≡ translate_rule w u s (rule b)
     unfolding translate_rule
-    of-rule q = rw (k.is_rule, ← k.nodes) q
+    of_rule q = rw (k.is_rule, ← k.nodes) q
 
     module _ {r : Checked} {z : List ℕ} (e : checked_with r z ≡ frames_for s (2 * n)) where
       pub few_frames : {c : Refusal} → r ≡ checked.Refused c → whole (Refused c) w z ≡ translate_rule w u s (rule b)
-      few_frames q = of-rule (refused-within s (2 * n) e w u (rule_tree k.term) q)
+      few_frames q = of_rule (refused_within s (2 * n) e w u (rule_tree k.term) q)
 
       pub in_place : length s ≤ 65536 → r ≡ checked.Passed → PlaceAt z b n
       in_place l q =
           let h = has_room s (2 * n) e q in
           rw h.same (record { term = k.term; is_rule = k.is_rule; counted = k.nodes; frames = omega (arith, k.nodes, h.frames_free); stack = l })
 
-      pub of-place : r ≡ checked.Passed → (o : Outcome Made) → ((t : Term) → rule b ≡ some t → o ≡ laid w u z (rule_tree t)) → o ≡ translate_rule w u s (rule b)
-      of-place q o f =
+      pub of_place : r ≡ checked.Passed → (o : Outcome Made) → ((t : Term) → rule b ≡ some t → o ≡ laid w u z (rule_tree t)) → o ≡ translate_rule w u s (rule b)
+      of_place q o f =
           let p : o ≡ laid w u s (rule_tree k.term) = rw (has_room s (2 * n) e q).same at (f k.term k.is_rule) in
-          of-rule (p ∙ laid-within s (2 * n) e w u (rule_tree k.term) q)
+          of_rule (p ∙ laid_within_lem s (2 * n) e w u (rule_tree k.term) q)
 
 -- a rule's term stands at the beginning of its bytes, and its run has a word less than two for each node of its tree
 pub rule_stands : (b : List ℕ) {t : Term} → rule b ≡ some t → Holds b 0 (bytes t)

@@ -58,24 +58,24 @@ module _ {all around : ℕ} where
       go (suc q) h e = f.free q (omega arith) e
 
   module _ {x y : Tree} (g : around < all) where
-    framed-first : {p : ℕ} → p ≤ length (text x) → Framed all (suc around) x p → Framed all around (fork x y) (suc p)
+    framed_first : {p : ℕ} → p ≤ length (text x) → Framed all (suc around) x p → Framed all around (fork x y) (suc p)
     unfolding text held
-    framed-first {p} l f = record { free = go }
+    framed_first {p} l f = record { free = go }
       where
         go : (q : ℕ) → q < suc p → IsTwo (fork x y) q → held (fork x y) q + around < all
         go zero h e = omega arith
         go (suc q) h e = omega (arith, first_held x y q (omega arith), f.free q (omega arith) (sym (first_digit x y q (omega arith)) ∙ e))
 
-    framed-second : {p : ℕ} → Framed all (suc around) x (length (text x)) → Framed all around y p → Framed all around (fork x y) (suc (length (text x) + p))
+    framed_second : {p : ℕ} → Framed all (suc around) x (length (text x)) → Framed all around y p → Framed all around (fork x y) (suc (length (text x) + p))
     unfolding text
-    framed-second {p} f k = record { free = both }
+    framed_second {p} f k = record { free = both }
       where
         both : (q : ℕ) → q < suc (length (text x) + p) → IsTwo (fork x y) q → held (fork x y) q + around < all
-        both zero h e = (framed-first (omega arith) f).free zero (omega arith) e
+        both zero h e = (framed_first (omega arith) f).free zero (omega arith) e
         both (suc q) h e = go (ltb q (length (text x))) refl
           where
             go : (z : Bool) → ltb q (length (text x)) ≡ z → held (fork x y) (suc q) + around < all
-            go true z = let l : q < length (text x) = ltb-true _ _ z in (framed-first (omega arith) f).free (suc q) (omega arith) e
+            go true z = let l : q < length (text x) = ltb-true _ _ z in (framed_first (omega arith) f).free (suc q) (omega arith) e
             go false z =
                 let l : length (text x) ≤ q = ltb-false _ _ z in
                 omega (arith, second_held x y q l, k.free (q - length (text x)) (omega arith) (sym (second_digit x y q l) ∙ e))
@@ -97,12 +97,12 @@ module _ {all around n : ℕ} where
       })
 
   module _ {x y : Tree} (g : around < all) where
-    spent-second : {m : ℕ} {r : Room} → length (text x) + m ≡ n → Framed all (suc around) x (length (text x)) → Spent all around y m r
+    spent_second : {m : ℕ} {r : Room} → length (text x) + m ≡ n → Framed all (suc around) x (length (text x)) → Spent all around y m r
         → Spent all around (fork x y) (suc n) r
     unfolding text
-    spent-second e f (enough o d k) = enough o (omega (arith, fork_length x y)) (rw fork_length (framed-second g f k))
-    spent-second e f (no_out h) = no_out (record { more_digits = omega (arith, fork_length x y, h.more_digits); framed = rw (← e) (framed-second g f h.framed) })
-    spent-second e f (no_frame h) =
+    spent_second e f (enough o d k) = enough o (omega (arith, fork_length x y)) (rw fork_length (framed_second g f k))
+    spent_second e f (no_out h) = no_out (record { more_digits = omega (arith, fork_length x y, h.more_digits); framed = rw (← e) (framed_second g f h.framed) })
+    spent_second e f (no_frame h) =
         let d = length (text x) + h.digit in
         let i : d - length (text x) ≡ h.digit = omega arith in
         no_frame (record {
@@ -111,21 +111,21 @@ module _ {all around n : ℕ} where
           byte_left = omega (arith, h.byte_left);
           is_two = get_or-append-add (text x) (text y) h.digit 0 ∙ h.is_two;
           all_held = rw (second_held x y d (omega arith), i) h.all_held;
-          framed = framed-second g f h.framed;
+          framed = framed_second g f h.framed;
         })
 
-    spent-fork : {r : Room} {go : ℕ → Room} → Spent all (suc around) x n r → ((m : ℕ) → Spent all around y m (go m)) → Spent all around (fork x y) (suc n) (next go r)
+    spent_fork : {r : Room} {go : ℕ → Room} → Spent all (suc around) x n r → ((m : ℕ) → Spent all around y m (go m)) → Spent all around (fork x y) (suc n) (next go r)
     unfolding next text
-    spent-fork (enough m e f) k = spent-second (omega arith) f (k m)
-    spent-fork (no_out h) k = no_out (record { more_digits = omega (arith, fork_length x y, h.more_digits); framed = framed-first g (omega (arith, h.more_digits)) h.framed })
-    spent-fork (no_frame h) k =
+    spent_fork (enough m e f) k = spent_second (omega arith) f (k m)
+    spent_fork (no_out h) k = no_out (record { more_digits = omega (arith, fork_length x y, h.more_digits); framed = framed_first g (omega (arith, h.more_digits)) h.framed })
+    spent_fork (no_frame h) k =
         no_frame (record {
           digit = suc h.digit;
           inside = omega (arith, fork_length x y, h.inside);
           byte_left = omega (arith, h.byte_left);
           is_two = first_digit x y h.digit h.inside ∙ h.is_two;
           all_held = omega (arith, first_held x y h.digit h.inside, h.all_held);
-          framed = framed-first g (omega (arith, h.inside)) h.framed;
+          framed = framed_first g (omega (arith, h.inside)) h.framed;
         })
 
 -- Whatever bytes and frames there are, the digits of a tree leave what `Spent` says.
@@ -140,7 +140,7 @@ digits_spend all around (fork x y) (suc n) = go (ltb around all) refl (digits_sp
   where
     go : (z : Bool) → ltb around all ≡ z → Spent all (suc around) x n (digits all (suc around) x n) → ((m : ℕ) → Spent all around y m (digits all around y m))
         → Spent all around (fork x y) (suc n) (cond z (next (digits all around y) (digits all (suc around) x n)) (lacks Frames))
-    go true z f k = spent-fork (ltb-true around all z) f k
+    go true z f k = spent_fork (ltb-true around all z) f k
     go false z f k =
         no_frame (record { digit = 0; inside = omega arith; byte_left = omega arith; is_two = refl; all_held = omega (arith, ltb-false around all z); framed = framed_none })
 

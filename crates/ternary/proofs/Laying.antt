@@ -189,15 +189,15 @@ module _ {z y : Table} {n : ℕ} {ns : List ℕ} where
       of_stem [] e = zero_one (cc)
       of_stem (p ∷ ks) e = keep_numbered (p + 1) 0 ks e
 
-      of-fork : (ks : List ℕ) → want_fork z ks ≡ awaits y (n ∷ ns) → Numbered z n y
-      of-fork [] e = zero_one (cc)
-      of-fork (p ∷ []) e = zero_one (cc)
-      of-fork (p ∷ (q ∷ ks)) e = keep_numbered (p + 1) (q + 1) ks e
+      of_fork : (ks : List ℕ) → want_fork z ks ≡ awaits y (n ∷ ns) → Numbered z n y
+      of_fork [] e = zero_one (cc)
+      of_fork (p ∷ []) e = zero_one (cc)
+      of_fork (p ∷ (q ∷ ks)) e = keep_numbered (p + 1) (q + 1) ks e
 
       go : (f g h : Bool) → cond f (want_leaf z ms) (cond g (want_stem z ms) (cond h (want_fork z ms) no_text)) ≡ awaits y (n ∷ ns) → Numbered z n y
       go true g h e = keep_numbered 0 0 ms e
       go false true h e = of_stem ms e
-      go false false true e = of-fork ms e
+      go false false true e = of_fork ms e
       go false false false e = zero_one (cc)
 
 -- The nodes pending are those of the trees pending.

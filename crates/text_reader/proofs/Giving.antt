@@ -95,8 +95,8 @@ module _ (e : Expression) (post : List ℕ) (end : ℕ) (q : Stands e post end) 
     unfolding of_bytes
     refuses r = rw r
 
-    pub no-abs : (get_or post (end - 1) 0 ≡ 4 → ⊥) → Given e out (Refused Rule) out
-    no-abs n = refuses (bytes_no_rule e (λ r. n (ends_symbol ∙ not_abs e r.body r.begins)))
+    pub no_abs : (get_or post (end - 1) 0 ≡ 4 → ⊥) → Given e out (Refused Rule) out
+    no_abs n = refuses (bytes_no_rule e (λ r. n (ends_symbol ∙ not_abs e r.body r.begins)))
 
   module _ (n : ℕ) (s : n ≡ total (take end post)) where
     counted : n ≡ length (bytes (term_of e))
@@ -187,18 +187,18 @@ module _ (ws names post : List ℕ) (k : ℕ) (g : length names ≤ k) where
       unfolding tokens
       all_words = reads ∙ ap (λ (x : List ℕ). read o.e (tokens x)) (drop_of_length-le ws h)
 
-      pub words-stand : length m ≡ length post → length post ≤ 16384 → Stands o.e m end
-      words-stand l f = record {
+      pub words_stand : length m ≡ length post → length post ≤ 16384 → Stands o.e m end
+      words_stand l f = record {
         stands = o.wrote.front;
         closed = closed (sound 32 [] (tokens ws) o.e [] all_words).0;
         within = omega (arith, o.wrote.inside);
         few = omega (arith, o.wrote.inside);
       }
 
-      pub words-given : (out : List ℕ) {x : Outcome Encoded} → x ≡ of_bytes (bytes (term_of o.e)) (rule (bytes (term_of o.e))) out
+      pub words_given : (out : List ℕ) {x : Outcome Encoded} → x ≡ of_bytes (bytes (term_of o.e)) (rule (bytes (term_of o.e))) out
           → x ≡ of_reading (of_words (some ws)) out
       unfolding of_reading of_words all_read
-      words-given out q = rw all_words q
+      words_given out q = rw all_words q
 
 pub words_asks : (ws names post : List ℕ) → WordRoom ws names post → Asks ws 0 names (length names) post 0
 words_asks ws names post h =

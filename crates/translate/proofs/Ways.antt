@@ -34,20 +34,20 @@ module _ (w : List ℕ) (u : ℕ) (s b : List ℕ) where
   refused_long h = refused (entry.too_long true w u s h)
 
   module _ (a : length w ≤ 131072) where
-    pub long-stack : 65536 < length s → whole (Refused Limits) w s ≡ translate w u s b
-    long-stack h = refused (entry.long-stack true w u s refl a h)
+    pub long_stack : 65536 < length s → whole (Refused Limits) w s ≡ translate w u s b
+    long_stack h = refused (entry.long_stack true w u s refl a h)
 
-    pub over-used : length w / 2 < u → whole (Refused Limits) w s ≡ translate w u s b
-    over-used h = refused (go (leb (length s) 65536) refl)
+    pub over_used : length w / 2 < u → whole (Refused Limits) w s ≡ translate w u s b
+    over_used h = refused (go (leb (length s) 65536) refl)
       where
         go : (z : Bool) → leb (length s) 65536 ≡ z → some Limits ≡ at_entry true w u s
-        go true e = entry.over-used true w u s refl a (leb-true (length s) 65536 e) h
-        go false e = entry.long-stack true w u s refl a (leb-false (length s) 65536 e)
+        go true e = entry.over_used true w u s refl a (leb-true (length s) 65536 e) h
+        go false e = entry.long_stack true w u s refl a (leb-false (length s) 65536 e)
 
   module _ {r : Checked} (e : refusal_of r ≡ at_entry true w u s) where
-    pub refused-entry : {f : Refusal} → r ≡ checked.Refused f → whole (Refused f) w s ≡ translate w u s b
-    refused-entry q = refused (sym (ap refusal_of q) ∙ e)
+    pub refused_entry : {f : Refusal} → r ≡ checked.Refused f → whole (Refused f) w s ≡ translate w u s b
+    refused_entry q = refused (sym (ap refusal_of q) ∙ e)
 
-    pub past-entry : r ≡ checked.Passed → {o : Outcome Made} → o ≡ translate_rule w u s (rule b) → o ≡ translate w u s b
+    pub past_entry : r ≡ checked.Passed → {o : Outcome Made} → o ≡ translate_rule w u s (rule b) → o ≡ translate w u s b
     unfolding translate
-    past-entry q g = g ∙ check_passes _ _ (sym (ap refusal_of q) ∙ e)
+    past_entry q g = g ∙ check_passes _ _ (sym (ap refusal_of q) ∙ e)

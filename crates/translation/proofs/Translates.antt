@@ -69,8 +69,8 @@ module _ (w : List ℕ) (u : ℕ) (s b : List ℕ) where
   module _ (e : Refusal) (q : (translate w u s b).answer ≡ Refused e) where
     -- "Numbers 1 to 6 [..] leave lent memory as found. Numbers 7 to 10 set to 0 the words of the nodes made in the call and the whole stack": a refusal
     -- comes only on its condition, and leaves table and stack so.
-    pub translate-lacks : Lacks w u s b e (translate w u s b).table (translate w u s b).stack
-    translate-lacks = go case
+    pub translate_lacks : Lacks w u s b e (translate w u s b).table (translate w u s b).stack
+    translate_lacks = go case
       where
         go : Case w u s b (translate w u s b) → Lacks w u s b e (translate w u s b).table (translate w u s b).stack
         go (refuses {e = f} {w'} {s'} k r) =
@@ -81,8 +81,8 @@ module _ (w : List ℕ) (u : ℕ) (s b : List ℕ) where
         go (lays_out {t} h r) = zero_one (cc (placed_answer h.placed_as s))
 
     -- all nodes are as they were
-    pub translate-refused : Kept (record { words = w; used = u }) (record { words = (translate w u s b).table; used = u })
-    translate-refused = go translate-lacks
+    pub translate_refused : Kept (record { words = w; used = u }) (record { words = (translate w u s b).table; used = u })
+    translate_refused = go translate_lacks
       where
         go : {f : Refusal} {x y : List ℕ} → Lacks w u s b f x y → Kept (record { words = w; used = u }) (record { words = x; used = u })
         go (Lacks.of_entry h) = kept_refl _

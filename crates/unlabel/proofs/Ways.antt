@@ -83,13 +83,13 @@ module _ {w : List ℕ} {v p q : ℕ} (k : IsFork w v p q) where
   kk_first h = rw (k.tree, h)
 
   module _ (e : tree_at w p ≡ leaf) where
-    pub kk-second : {z : Bool} → is_k (tree_at w q) ≡ z → is_kk (tree_at w v) ≡ z
+    pub kk_second : {z : Bool} → is_k (tree_at w q) ≡ z → is_kk (tree_at w v) ≡ z
     unfolding is_kk is_leaf
-    kk-second h = rw (k.tree, e) h
+    kk_second h = rw (k.tree, e) h
 
-    pub kk-last : {x : ℕ} {z : Bool} → IsStem w q x → is_leaf (tree_at w x) ≡ z → is_kk (tree_at w v) ≡ z
+    pub kk_last : {x : ℕ} {z : Bool} → IsStem w q x → is_leaf (tree_at w x) ≡ z → is_kk (tree_at w v) ≡ z
     unfolding is_k
-    kk-last s h = kk-second (rw s.tree h)
+    kk_last s h = kk_second (rw s.tree h)
 
   pub k_of : {z : Bool} → is_leaf (tree_at w p) ≡ z → is_k_of (tree_at w v) ≡ z
   unfolding is_k_of
@@ -131,12 +131,12 @@ module _ {w : List ℕ} {v p q : ℕ} (k : IsFork w v p q) where
     unfolding is_labelled
     both h = rw (k.tree, l) h
 
-    pub no-rule-branch : is_rule_branch (tree_at w q) ≡ false → Refused Label ≡ unlabel_node w v
-    no-rule-branch h = no_labelled w v (both h)
+    pub no_rule_branch : is_rule_branch (tree_at w q) ≡ false → Refused Label ≡ unlabel_node w v
+    no_rule_branch h = no_labelled w v (both h)
 
-    pub both-branches : {f t : ℕ} → is_rule_branch (tree_at w q) ≡ true → f ≡ rule_under w q → t ≡ label_under w p → Parts f t ≡ unlabel_node w v
+    pub both_branches : {f t : ℕ} → is_rule_branch (tree_at w q) ≡ true → f ≡ rule_under w q → t ≡ label_under w p → Parts f t ≡ unlabel_node w v
     unfolding unlabel_node rule_node label_node
-    both-branches h x y = rw (both h, x, y, k.one_is, k.two_is)
+    both_branches h x y = rw (both h, x, y, k.one_is, k.two_is)
 
 -- the node number, where neither 1 nor 2 is met
 module _ (w : List ℕ) (u v : ℕ) (q : none ≡ at_entry true w u []) where

@@ -68,15 +68,15 @@ day_stop m w ws = go (is_unused w) (is_window w) (leb m w.first)
 -- the places from i on, after a window that ends at the minute m, tell whether the day is right
 module _ (day : List Window) (i m : ℕ) (kept : is_day_from 0 day ≡ is_day_from m (drop i day)) where
   module _ (z : Window) (h : i < length day) where
-    pub after-unused : {n : ℕ} → fits m (get_or day i z) ≡ true → (get_or day i z).packet ≡ 0 → n ≡ 1440 → is_day_from 0 day ≡ is_day_from n (drop (i + 1) day)
-    after-unused f e q = rw q (kept ∙ ap (is_day_from m) (from_place day i z h) ∙ step_unused m (get_or day i z) (drop (i + 1) day) f e)
+    pub after_unused : {n : ℕ} → fits m (get_or day i z) ≡ true → (get_or day i z).packet ≡ 0 → n ≡ 1440 → is_day_from 0 day ≡ is_day_from n (drop (i + 1) day)
+    after_unused f e q = rw q (kept ∙ ap (is_day_from m) (from_place day i z h) ∙ step_unused m (get_or day i z) (drop (i + 1) day) f e)
 
-    pub after-window : {n : ℕ} → fits m (get_or day i z) ≡ true → ((get_or day i z).packet ≡ 0 → ⊥) → n ≡ (get_or day i z).end → is_day_from 0 day ≡ is_day_from n (drop (i + 1) day)
-    after-window f e q = rw q (kept ∙ ap (is_day_from m) (from_place day i z h) ∙ step_window m (get_or day i z) (drop (i + 1) day) f e)
+    pub after_window : {n : ℕ} → fits m (get_or day i z) ≡ true → ((get_or day i z).packet ≡ 0 → ⊥) → n ≡ (get_or day i z).end → is_day_from 0 day ≡ is_day_from n (drop (i + 1) day)
+    after_window f e q = rw q (kept ∙ ap (is_day_from m) (from_place day i z h) ∙ step_window m (get_or day i z) (drop (i + 1) day) f e)
 
-    pub day-broken : fits m (get_or day i z) ≡ false → false ≡ is_day day
+    pub day_broken : fits m (get_or day i z) ≡ false → false ≡ is_day day
     unfolding is_day
-    day-broken e = rw (kept ∙ ap (is_day_from m) (from_place day i z h) ∙ day_stop m (get_or day i z) (drop (i + 1) day) e) (and_false (eqb (length day) 4))
+    day_broken e = rw (kept ∙ ap (is_day_from m) (from_place day i z h) ∙ day_stop m (get_or day i z) (drop (i + 1) day) e) (and_false (eqb (length day) 4))
 
   pub day_right : length day ≡ 4 → 4 ≤ i → true ≡ is_day day
   unfolding is_day is_day_from
@@ -85,13 +85,13 @@ module _ (day : List Window) (i m : ℕ) (kept : is_day_from 0 day ≡ is_day_fr
 -- the days from d on tell whether each day is right
 module _ (week : List (List Window)) (d : ℕ) (kept : all_days week ≡ all_days (drop d week)) where
   module _ (z : List Window) (h : d < length week) where
-    pub after-day : is_day (get_or week d z) ≡ true → all_days week ≡ all_days (drop (d + 1) week)
+    pub after_day : is_day (get_or week d z) ≡ true → all_days week ≡ all_days (drop (d + 1) week)
     unfolding all_days
-    after-day e = kept ∙ ap all_days (from_place week d z h) ∙ rw e
+    after_day e = kept ∙ ap all_days (from_place week d z h) ∙ rw e
 
-    pub week-broken : is_day (get_or week d z) ≡ false → false ≡ is_week week
+    pub week_broken : is_day (get_or week d z) ≡ false → false ≡ is_week week
     unfolding is_week all_days
-    week-broken e = rw (kept ∙ ap all_days (from_place week d z h), e) (and_false (eqb (length week) 7))
+    week_broken e = rw (kept ∙ ap all_days (from_place week d z h), e) (and_false (eqb (length week) 7))
 
   pub week_right : length week ≡ 7 → 7 ≤ d → true ≡ is_week week
   unfolding is_week all_days

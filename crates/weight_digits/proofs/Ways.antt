@@ -45,9 +45,9 @@ module _ {w : List ℕ} {v : ℕ} (d : ℕ) (i : InUse w v) where
   digit_leaf e = rw (ap (tree_at w) e ∙ zero_leaf (subst (InUse w) e i))
 
   module _ {a : ℕ} (p : a ≡ first w v) where
-    pub digit-other : (v ≡ 0 → ⊥) → (a ≡ 1 → ⊥) → digit_by 10 ≡ digit_after d (tree_at w v)
+    pub digit_other : (v ≡ 0 → ⊥) → (a ≡ 1 → ⊥) → digit_by 10 ≡ digit_after d (tree_at w v)
     unfolding digit_by digit_after
-    digit-other n m = go a (second w v) p refl m
+    digit_other n m = go a (second w v) p refl m
       where
         go : (x y : ℕ) → x ≡ first w v → y ≡ second w v → (x ≡ 1 → ⊥) → none ≡ digit_after d (tree_at w v)
         go zero y q r m = absurd (not_leaf i n (leaf_by i q refl))
@@ -57,13 +57,13 @@ module _ {w : List ℕ} {v : ℕ} (d : ℕ) (i : InUse w v) where
             rw k.tree (sym (no_k d (tree_at w (suc x - 1)) (tree_at w (suc y - 1)) (not_leaf k.one (λ z. m (omega arith)))))
 
     module _ (o : a ≡ 1) {b : ℕ} (q : b ≡ second w v) where
-      pub digit-stem : b ≡ 0 → digit_by 10 ≡ digit_after d (tree_at w v)
+      pub digit_stem : b ≡ 0 → digit_by 10 ≡ digit_after d (tree_at w v)
       unfolding digit_by digit_after
-      digit-stem h = rw (stem_by i p q (λ z. omega arith) h).tree
+      digit_stem h = rw (stem_by i p q (λ z. omega arith) h).tree
 
-      pub digit-more : (b ≡ 0 → ⊥) → InUse w (b - 1) × (digit_after d (tree_at w v) ≡ digit_after (d + 1) (tree_at w (b - 1)))
+      pub digit_more : (b ≡ 0 → ⊥) → InUse w (b - 1) × (digit_after d (tree_at w v) ≡ digit_after (d + 1) (tree_at w (b - 1)))
       unfolding digit_after
-      digit-more h =
+      digit_more h =
           let k = fork_by i p q (λ z. omega arith) h in
           let z : a - 1 ≡ 0 = omega arith in
           (k.two, rw (k.tree, ap (tree_at w) z ∙ zero_leaf (subst (InUse w) z k.one)))
@@ -79,17 +79,17 @@ module _ {w : List ℕ} {v : ℕ} (i : InUse w v) {a : ℕ} (p : a ≡ first w v
   item_leaf h = no_item (λ n. rw (leaf_by i p h))
 
   module _ (l : a ≡ 0 → ⊥) {b : ℕ} (q : b ≡ second w v) where
-    pub item-stem : b ≡ 0 → FirstItem w v 10 0
+    pub item_stem : b ≡ 0 → FirstItem w v 10 0
     unfolding digits_in
-    item-stem h = no_item (λ n. rw (stem_by i p q l h).tree)
+    item_stem h = no_item (λ n. rw (stem_by i p q l h).tree)
 
     module _ (m : b ≡ 0 → ⊥) where
       pub item_in : InUse w (a - 1)
       item_in = (fork_by i p q l m).one
 
-      pub item-fork : {d : ℕ} → digit_by d ≡ digit_of (tree_at w (a - 1)) → FirstItem w v d (b - 1)
+      pub item_fork : {d : ℕ} → digit_by d ≡ digit_of (tree_at w (a - 1)) → FirstItem w v d (b - 1)
       unfolding digits_in
-      item-fork e = let k = fork_by i p q l m in record { digits = λ n. rw (k.tree, e); rest_in = λ h. k.two }
+      item_fork e = let k = fork_by i p q l m in record { digits = λ n. rw (k.tree, e); rest_in = λ h. k.two }
 
 -- The nine digits X of a list, of which i are read and the rest are those of the list at a node: one law for each way that reading goes on.
 module _ {X : Option (List ℕ)} (w l : List ℕ) (v i : ℕ) (n : length l ≡ 9) (e : X ≡ after (take i l) (digits_in (9 - i) (tree_at w v))) where

@@ -105,13 +105,13 @@ module _ (w : List ℕ) (u : ℕ) where
 
     module _ (h : a < u) (k : b < u) (z : Bool) (l : List ℕ)
         (f : InUse w a → InUse w b → digits_by z l ≡ sum_digits (digits_of_weight (tree_at w a)) (digits_of_weight (tree_at w b))) where
-      once-entered : at_entry true w u [] ≡ none → digits_by z l ≡ sum_digits (digits_of_weight (tree_at w a)) (digits_of_weight (tree_at w b))
-      once-entered p = let t = (entered true w u [] p).table in f (record { used = u; fine = t; inside = h }) (record { used = u; fine = t; inside = k })
+      once_entered : at_entry true w u [] ≡ none → digits_by z l ≡ sum_digits (digits_of_weight (tree_at w a)) (digits_of_weight (tree_at w b))
+      once_entered p = let t = (entered true w u [] p).table in f (record { used = u; fine = t; inside = h }) (record { used = u; fine = t; inside = k })
 
       pub no_sum : z ≡ false → {r : Made} → r ≡ unless (at_entry true w u []) Refused (Refused Weight) → whole r w [] ≡ add_weights w u a b
       unfolding digits_by
-      no_sum e q = refused_digits q ∙ add_checked w u a b h k (λ p. sym (once-entered p) ∙ rw e)
+      no_sum e q = refused_digits q ∙ add_checked w u a b h k (λ p. sym (once_entered p) ∙ rw e)
 
       pub sum_laid : z ≡ true → checked_digits w u (some l) ≡ add_weights w u a b
       unfolding digits_by
-      sum_laid e = add_checked w u a b h k (λ p. sym (once-entered p) ∙ rw e)
+      sum_laid e = add_checked w u a b h k (λ p. sym (once_entered p) ∙ rw e)

@@ -41,9 +41,9 @@ module _ {l : List ℕ} {i n most : ℕ} (s : Scans l i n most) where
   scan_few = omega (arith, (digits_within (take i l) 1 n s.before).1, length-take-le i l s.inside)
 
   module _ (h : i < length l) where
-    pub scan-digit : (m most' : ℕ) → some m ≡ wanted_after (get_or l i 0) (some n) → most' ≡ max most n → Scans l (i + 1) m most'
+    pub scan_digit : (m most' : ℕ) → some m ≡ wanted_after (get_or l i 0) (some n) → most' ≡ max most n → Scans l (i + 1) m most'
     unfolding wanted wanted_from many_wanted most_wanted
-    scan-digit m most' e b =
+    scan_digit m most' e b =
         let k : most_wanted (some n) (drop i l) ≡ max n (most_wanted (some m) (drop (i + 1) l)) = rw (drop-cons l i 0 h, e, add-one i) in
         record {
           inside = omega arith;
@@ -51,8 +51,8 @@ module _ {l : List ℕ} {i n most : ℕ} (s : Scans l i n most) where
           most_is = omega (arith, s.most_is);
         }
 
-    pub scan-broken : none ≡ wanted_after (get_or l i 0) (some n) → tree_of l ≡ none
-    scan-broken e =
+    pub scan_broken : none ≡ wanted_after (get_or l i 0) (some n) → tree_of l ≡ none
+    scan_broken e =
         let k : take i l ++ (get_or l i 0 ∷ drop (suc i) l) ≡ l = rw (← drop-cons l i 0 h) (take-append-drop i l) in
         ap tree_of (sym k) ∙ wanted_ends (take i l) (get_or l i 0) (drop (suc i) l) (rw s.before (sym e))
 
@@ -65,9 +65,9 @@ module _ {l : List ℕ} {i n most : ℕ} (s : Scans l i n most) where
         let d : drop i l ≡ [] = rw (q, drop-length l) in
         (ap wanted (sym (rw (q, take-length l))) ∙ s.before, s.most_is ∙ rw d (omega arith))
 
-    pub scan-whole : n ≡ 0 → ScanSays l (Whole most)
+    pub scan_whole : n ≡ 0 → ScanSays l (Whole most)
     unfolding ScanSays
-    scan-whole e = let w = (wanted_whole l).0 (ended.0 ∙ ap some e) in (w.0, w.1, sym (most_wanted_lem l w.0 w.1 ∙ ended.1))
+    scan_whole e = let w = (wanted_whole l).0 (ended.0 ∙ ap some e) in (w.0, w.1, sym (most_wanted_lem l w.0 w.1 ∙ ended.1))
 
-    pub scan-wants : (n ≡ 0 → ⊥) → tree_of l ≡ none
-    scan-wants z = wanted_broken l (λ q. z (cc ended.0))
+    pub scan_wants : (n ≡ 0 → ⊥) → tree_of l ≡ none
+    scan_wants z = wanted_broken l (λ q. z (cc ended.0))

@@ -15,7 +15,7 @@ use Rattle.week.specs.Claims.{IsDay, WindowOf, ValidInput, passed, Minutes, this
 use Rattle.week.proofs.Days.{day_of_lem, below_seven, first_below}
 use Rattle.week.proofs.Nearest.{until_is, here_in_week, begin_in_week, next_exactly}
 use Rattle.windows.specs.Code.{first_from}
-use Rattle.windows.proofs.Firsts.{First, first_found, first-missed}
+use Rattle.windows.proofs.Firsts.{First, first_found, first_missed}
 
 -- a beginning less than a day after k days ahead, counted from the minute 0 of this day, is on the day that is k days ahead
 record OnDay (day minute d first m k : ℕ) : Type 0 where
@@ -41,12 +41,12 @@ module _ (week : List (List Window)) (day minute : ℕ) where
         → m + minute < (k + 1) * 1440 → OnDay day minute d w.first m k
     stands {d} {m} {k} {w} o r h l = on_day day minute d w.first m k input.day_is input.minute_is (first_below o.a_window) (below_seven input.week_is o) r h l
 
-    day-ahead : (k : ℕ) → IsDay (get_or week ((day + k) % 7) [])
-    day-ahead k = day_of_lem input.week_is ((day + k) % 7) (omega arith)
+    day_ahead : (k : ℕ) → IsDay (get_or week ((day + k) % 7) [])
+    day_ahead k = day_of_lem input.week_is ((day + k) % 7) (omega arith)
 
     module _ (k : ℕ) (p : NoneWithin k) where
-      pub none-next : first_from (minute - k * 1440) (get_or week ((day + k) % 7) []) ≡ none → NoneWithin (k + 1)
-      none-next e d m w o r = go (leb ((k + 1) * 1440) (m + minute)) refl
+      pub none_next : first_from (minute - k * 1440) (get_or week ((day + k) % 7) []) ≡ none → NoneWithin (k + 1)
+      none_next e d m w o r = go (leb ((k + 1) * 1440) (m + minute)) refl
         where
           go : (z : Bool) → leb ((k + 1) * 1440) (m + minute) ≡ z → (k + 1) * 1440 ≤ m + minute
           go true q = leb-true _ _ q
@@ -54,7 +54,7 @@ module _ (week : List (List Window)) (day minute : ℕ) where
               let x = stands o r (p d m w o r) (leb-false _ _ q) in
               let i = subst (λ (n : ℕ). Memᴰ w (get_or week n [])) x.day_is o.place in
               let y = x.minute_is in
-              absurd (first-missed (minute - k * 1440) (day-ahead k) e w i o.a_window (omega arith))
+              absurd (first_missed (minute - k * 1440) (day_ahead k) e w i o.a_window (omega arith))
 
       module _ {b : ℕ} (x : First (minute - k * 1440) (get_or week ((day + k) % 7) []) b) (few : k < 8) where
         abbrev at_first : WindowOf week ((day + k) % 7) x.begun
@@ -101,15 +101,15 @@ module _ (week : List (List Window)) (day minute : ℕ) where
                 let l = x.below v i o.a_window (omega arith) in
                 omega arith
 
-        next-is : Number (k * 1440 + b - minute) ≡ next_window week day minute
-        next-is = sym ((next_exactly week day minute _).1 (passed input (begins at_first leads least)))
+        next_is : Number (k * 1440 + b - minute) ≡ next_window week day minute
+        next_is = sym ((next_exactly week day minute _).1 (passed input (begins at_first leads least)))
 
       pub found : (b : ℕ) → k < 8 → first_from (minute - k * 1440) (get_or week ((day + k) % 7) []) ≡ some b → Number (k * 1440 + b - minute) ≡ next_window week day minute
-      found b few e = next-is (first_found (minute - k * 1440) (day-ahead k) b e) few
+      found b few e = next_is (first_found (minute - k * 1440) (day_ahead k) b e) few
 
       pub reaches : (b : ℕ) → first_from (minute - k * 1440) (get_or week ((day + k) % 7) []) ≡ some b → (minute ≤ k * 1440 + b) × (b < 1440)
       reaches b e =
-          let x = first_found (minute - k * 1440) (day-ahead k) b e in
+          let x = first_found (minute - k * 1440) (day_ahead k) b e in
           let c = x.reached in
           let n = x.minute_is in
           let f = first_below x.window in

@@ -91,5 +91,5 @@ module _ (m : ℕ) where
           below = λ v i c g. y.below v (window_in x v i c) c g;
         }
 
-    pub first-missed : first_from m day ≡ none → (v : Window) → Memᴰ v day → IsWindow v → m ≤ v.first → ⊥
-    first-missed e v i c g = first_none x.filled.ascend x.filled.left (ap (first_from m) (sym x.filled.in_order) ∙ e) v (window_in x v i c) g
+    pub first_missed : first_from m day ≡ none → (v : Window) → Memᴰ v day → IsWindow v → m ≤ v.first → ⊥
+    first_missed e v i c g = first_none x.filled.ascend x.filled.left (ap (first_from m) (sym x.filled.in_order) ∙ e) v (window_in x v i c) g

@@ -21,7 +21,7 @@ use Rattle.week.specs.Claims.{ValidInput}
 use Rattle.table.proofs.Lists.{any_default}
 use Rattle.week.proofs.Checks.{valid}
 use Rattle.windows.specs.Code.{first_from}
-use Rattle.windows.proofs.Ahead.{NoneWithin, none-next, found, reaches}
+use Rattle.windows.proofs.Ahead.{NoneWithin, none_next, found, reaches}
 
 -- an answer by what was found
 some_number : (o : Option ℕ) {r : Given} {n : ℕ} → r ≡ given_by o → r ≡ Number n → o ≡ some n
@@ -43,19 +43,19 @@ module _ (week : List (List Window)) (day minute : ℕ) where
     abbrev input : ValidInput week day minute
     input = valid week day minute e
 
-    pub day-below : day < 7
-    day-below = let h = input.day_is in omega arith
+    pub day_below : day < 7
+    day_below = let h = input.day_is in omega arith
 
-    pub minute-below : minute < 1440
-    minute-below = let h = input.minute_is in omega arith
+    pub minute_below : minute < 1440
+    minute_below = let h = input.minute_is in omega arith
 
     -- day d of the seven
     same_day : (d : ℕ) → d < 7 → (z : List Window) → get_or week d z ≡ get_or week d []
     same_day d h z = let l = input.week_is.seven in any_default week d z [] (omega arith)
 
-    pub at-packet : (z : List Window) {r : Given} → r ≡ given_by (packet_at minute (get_or week day z)) → r ≡ window_at week day minute
+    pub at_packet : (z : List Window) {r : Given} → r ≡ given_by (packet_at minute (get_or week day z)) → r ≡ window_at week day minute
     unfolding window_at checked
-    at-packet z p = rw e (p ∙ ap (λ (l : List Window). given_by (packet_at minute l)) (same_day day day-below z))
+    at_packet z p = rw e (p ∙ ap (λ (l : List Window). given_by (packet_at minute l)) (same_day day day_below z))
 
     -- k days ahead
     module _ (k from : ℕ) (p : NoneWithin week day minute k) (f : from ≡ minute - k * 1440) (z : List Window) {r : Given}
@@ -66,12 +66,12 @@ module _ (week : List (List Window)) (day minute : ℕ) where
       first_is : {b : ℕ} → r ≡ Number b → first_from (minute - k * 1440) (get_or week ((day + k) % 7) []) ≡ some b
       first_is t = sym moved ∙ some_number _ q t
 
-      pub found-ahead : {b : ℕ} → k < 8 → r ≡ Number b → Number (k * 1440 + b - minute) ≡ next_window week day minute
-      found-ahead {b} h t = found week day minute input k p b h (first_is t)
+      pub found_ahead : {b : ℕ} → k < 8 → r ≡ Number b → Number (k * 1440 + b - minute) ≡ next_window week day minute
+      found_ahead {b} h t = found week day minute input k p b h (first_is t)
 
       -- what is found is on its day, and not past
-      pub reached-ahead : {b : ℕ} → r ≡ Number b → (minute ≤ k * 1440 + b) × (b < 1440)
-      reached-ahead {b} t = reaches week day minute input k p b (first_is t)
+      pub reached_ahead : {b : ℕ} → r ≡ Number b → (minute ≤ k * 1440 + b) × (b < 1440)
+      reached_ahead {b} t = reaches week day minute input k p b (first_is t)
 
-      pub none-ahead-of : Run.OneOf (1 ∷ 2 ∷ []) (Declared.tag_of goal.the_type r) → NoneWithin week day minute (k + 1)
-      none-ahead-of t = none-next week day minute input k p (sym moved ∙ no_number _ q t)
+      pub none_ahead_of : Run.OneOf (1 ∷ 2 ∷ []) (Declared.tag_of goal.the_type r) → NoneWithin week day minute (k + 1)
+      none_ahead_of t = none_next week day minute input k p (sym moved ∙ no_number _ q t)

@@ -123,13 +123,13 @@ module _ {w : List ℕ} {u : ℕ} {s₀ s : List ℕ} {t : Tree} {o₀ o : List 
         p.so_far ∙ ap (λ (r : List ℕ). take done o ++ r) e ∙ sym (append_snoc (take done o) d.value l)
         ∙ ap (λ (r : List ℕ). r ++ l) (sym (take-suc-set o done d.value puts_room) ∙ ap (λ (n : ℕ). take n (set o done d.value)) (sym (add-one done)))
 
-    others-stay : drop (done + 1) (set o done d.value) ≡ drop (done + 1) o₀
-    others-stay =
+    others_stay : drop (done + 1) (set o done d.value) ≡ drop (done + 1) o₀
+    others_stay =
         drop-set-lt (done + 1) o done d.value (omega arith) ∙ sym (drop-drop 1 done o) ∙ ap (drop 1) p.others ∙ drop-drop 1 done o₀
 
-    pub puts-more : d.«then» ≡ More → length z ≡ length s → Puts w u s₀ z t o₀ (set o done d.value) d.walk (done + 1)
+    pub puts_more : d.«then» ≡ More → length z ≡ length s → Puts w u s₀ z t o₀ (set o done d.value) d.walk (done + 1)
     unfolding ThenSays walks_more
-    puts-more q e =
+    puts_more q e =
         let r = said p.walks z d says More q in
         record {
           goal = p.goal;
@@ -138,7 +138,7 @@ module _ {w : List ℕ} {u : ℕ} {s₀ s : List ℕ} {t : Tree} {o₀ o : List 
           counted = omega (arith, p.counted, r.5);
           same_out = length-set o done d.value ∙ p.same_out;
           so_far = longer (texts (r.0 ∷ r.1)) r.4;
-          others = others-stay;
+          others = others_stay;
         }
 
     -- the last digit
@@ -152,9 +152,9 @@ module _ {w : List ℕ} {u : ℕ} {s₀ s : List ℕ} {t : Tree} {o₀ o : List 
         go NoOut q h = fits_not (walks_out p.walks z d says q) p.fits
         go NoFrame q h = fits_not (walks_full p.walks z d says q) p.fits
 
-    pub puts-end : Run.OneOf (1 ∷ 2 ∷ 3 ∷ []) (Declared.tag_of Rattle.writer.specs.contracts.Then.the_type d.«then»)
+    pub puts_end : Run.OneOf (1 ∷ 2 ∷ 3 ∷ []) (Declared.tag_of Rattle.writer.specs.contracts.Then.the_type d.«then»)
         → (done + 1 ≡ length (text t)) × (set o done d.value ≡ text t ++ drop (done + 1) o₀)
-    puts-end h =
+    puts_end h =
         let e : text t ≡ take (done + 1) (set o done d.value) = longer [] (last h) ∙ append-nil _ in
         let l : length (take (done + 1) (set o done d.value)) ≡ done + 1 = length-take-le (done + 1) (set o done d.value) (omega (arith, length-set o done d.value, puts_room)) in
-        (sym (ap length e ∙ l), sym (take-append-drop (done + 1) (set o done d.value)) ∙ ap₂ (λ (a b : List ℕ). a ++ b) (sym e) others-stay)
+        (sym (ap length e ∙ l), sym (take-append-drop (done + 1) (set o done d.value)) ∙ ap₂ (λ (a b : List ℕ). a ++ b) (sym e) others_stay)

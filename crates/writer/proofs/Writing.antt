@@ -131,19 +131,19 @@ module _ {w : List ℕ} {u : ℕ} {s : List ℕ} {k : Walk} {x : Tree} {xs : Lis
           )
 
       module _ (m : second w k.at ≡ 0 → ⊥) where
-        pub second-small : second w k.at - 1 < 4294967296
-        second-small = omega (arith, (sound_node w u k.at o.inside o.fine.unbroken).second_in, o.inside, o.fine.within, o.fine.short)
+        pub second_small : second w k.at - 1 < 4294967296
+        second_small = omega (arith, (sound_node w u k.at o.inside o.fine.unbroken).second_in, o.inside, o.fine.within, o.fine.short)
 
-        is-tree : x ≡ fork (tree_at w (first w k.at - 1)) (tree_at w (second w k.at - 1))
-        is-tree =
+        is_tree : x ≡ fork (tree_at w (first w k.at - 1)) (tree_at w (second w k.at - 1))
+        is_tree =
             sym o.tree
             ∙ tree_fork w u k.at o.fine.unbroken o.inside (first w k.at - 1) (second w k.at - 1) (sym branch) (omega (arith, m))
 
         -- no frame, or one more held
-        is-full : frames s ≤ k.held → (c : ℕ) (z : Walk) → ThenSays w u s s k.left x xs c z NoFrame
+        is_full : frames s ≤ k.held → (c : ℕ) (z : Walk) → ThenSays w u s s k.left x xs c z NoFrame
         unfolding ThenSays
-        is-full g c z =
-            rw is-tree (ap (rest_of (frames s) _) (less k.left h) ∙ rest_full (frames s) (k.left - 1) _ _ xs (omega (arith, o.held_is)))
+        is_full g c z =
+            rw is_tree (ap (rest_of (frames s) _) (less k.left h) ∙ rest_full (frames s) (k.left - 1) _ _ xs (omega (arith, o.held_is)))
 
         is_held : k.held < frames s
             → ThenSays w u s (set s (k.held * 3) (second w k.at - 1)) k.left x xs 50 (record { at = first w k.at - 1; held = k.held + 1; left = k.left - 1 }) More
@@ -155,7 +155,7 @@ module _ {w : List ℕ} {u : ℕ} {s : List ℕ} {k : Walk} {x : Tree} {xs : Lis
             let z : List ℕ = set s (k.held * 3) b in
             let e : get_or z (length xs * 3) 0 ≡ b = ap (λ (i : ℕ). get_or z (i * 3) 0) (sym o.held_is) ∙ get_or-set_same s (k.held * 3) b 0 (omega arith) in
             let i : b < u = omega (arith, (sound_node w u k.at o.inside o.fine.unbroken).second_in, o.inside, m) in
-            rw is-tree (
+            rw is_tree (
               p,
               r ∷ xs,
               record {
@@ -178,5 +178,5 @@ module _ {w : List ℕ} {u : ℕ} {s : List ℕ} {k : Walk} {x : Tree} {xs : Lis
                 → let y = cond b (digit_with (record { value = 0; «then» = NoFrame; walk = k }) s)
                 (digit_with (record { value = 50; «then» = More; walk = record { at = first w k.at - 1; held = k.held + 1; left = k.left - 1 } }) (set s (k.held * 3) (second w k.at - 1))) in
                 DigitSays w u s y.stack k.left x xs y.digit
-            go true b = is-full (leb-true (frames s) k.held b) 0 k
+            go true b = is_full (leb-true (frames s) k.held b) 0 k
             go false b = is_held (leb-false (frames s) k.held b)

@@ -1,5 +1,5 @@
 -- `apply::apply_checked` meets its contract: 3 for either number, then the application. Assumes nothing.
-use Rattle.apply.proofs.Entered.{within_limit, refuse_function, refuse-argument, by-nodes}
+use Rattle.apply.proofs.Entered.{within_limit, refuse_function, refuse_argument, by_nodes}
 use borrow.Author.Rules.{rules}
 use Rattle.apply.proofs.apply_checked.Statement.{statement}
 use Rattle.apply.proofs.apply_checked.Tie as tie
@@ -14,7 +14,7 @@ returns-2 : tie.Need-returns-2
 returns-2 c =
     let b = c.before.before.before.before.before in
     let a = b.args in
-    refuse-argument a.table.now a.used a.stack.now a.function a.argument a.limit b.requires.1 c.before.if1.false c.if2.true
+    refuse_argument a.table.now a.used a.stack.now a.function a.argument a.limit b.requires.1 c.before.if1.false c.if2.true
 
 apply-nodes-requires : tie.Need-apply-nodes-requires
 apply-nodes-requires c κs =
@@ -41,7 +41,7 @@ returns-3 c =
     let d = e.before.before.before.before in
     let b = d.before.before.before.before.before in
     let a = b.args in
-    by-nodes a.table.now a.used a.stack.now a.function a.argument a.limit b.requires.1 d.before.if1.false d.if2.false e.apply-nodes.ensures.0
+    by_nodes a.table.now a.used a.stack.now a.function a.argument a.limit b.requires.1 d.before.if1.false d.if2.false e.apply-nodes.ensures.0
     c.applied.ensures
 
 pub apply_checked_spec : {M : Type 1} → statement M

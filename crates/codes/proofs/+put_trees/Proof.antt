@@ -1,6 +1,6 @@
 -- `codes::put_trees` meets its contract: the values of smaller trees, then those of n nodes. Assumes nothing.
 use native.Mathlib.Omega.{arith}
-use Rattle.codes.proofs.Putting.{no_trees_put, fewer_asks, trees-ready, trees-put}
+use Rattle.codes.proofs.Putting.{no_trees_put, fewer_asks, trees_ready, trees_put}
 use borrow.Author.Rules.{rules}
 use Prim.Native.Nat.{ℕ, ◌<◌}
 use borrow.Fn.Kinds.{In}
@@ -56,7 +56,7 @@ put-trees-put-values-requires t c κs =
     let a = c.before.before.before in
     let e = a.before.before in
     let s = e.before.before in
-    trees-ready _ s.args.out.now e.if1.false s.requires.1.0 s.requires.1.1 a.put-trees.ensures a.put-trees.auto.1.0
+    trees_ready _ s.args.out.now e.if1.false s.requires.1.0 s.requires.1.1 a.put-trees.ensures a.put-trees.auto.1.0
 
 put-trees-same-length : (t : ℕ) → put-trees-lts.Need-same-length (
   put_trees_below t,
@@ -77,7 +77,7 @@ put-trees-returns-2 t c =
     let a = b.before.before.before.before in
     let e = a.before.before in
     let s = e.before.before in
-    trees-put _ s.args.out.now e.if1.false s.requires.1.0 s.requires.1.1 a.put-trees.ensures a.put-trees.auto.1.0 b.put-values.ensures
+    trees_put _ s.args.out.now e.if1.false s.requires.1.0 s.requires.1.1 a.put-trees.ensures a.put-trees.auto.1.0 b.put-values.ensures
 
 pub +put-trees-spec : {M : Type 1} → statement M
 +put-trees-spec = close μ_put_trees λ t. put-trees-lts.spec (

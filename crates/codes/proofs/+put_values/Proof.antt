@@ -1,6 +1,6 @@
 -- `codes::put_values` meets its contract: the values after a leaf, after a stem and after a fork, one list after another. Assumes nothing.
 use native.Mathlib.Omega.{arith}
-use Rattle.codes.proofs.Putting.{value_bound, room_for_one, one_put, no_digit_put, no_tree_put, leaves_ready, stems-ready, forks-ready, all-put}
+use Rattle.codes.proofs.Putting.{value_bound, room_for_one, one_put, no_digit_put, no_tree_put, leaves_ready, stems_ready, forks_ready, all_put}
 use borrow.Author.Rules.{rules}
 use Prim.Native.Nat.{ℕ, ◌<◌}
 use borrow.Fn.Kinds.{In}
@@ -126,7 +126,7 @@ put-values-put-values-requires-2 t c κs =
     let a = c.before.before.before in
     let e = a.before.before in
     let s = e.before.before.before in
-    (omega (arith, e.before.if1.false, s.requires.0), stems-ready s.requires.1 e.before.if1.false e.if3.false a.put-values.ensures a.put-values.auto.1.1.1.0)
+    (omega (arith, e.before.if1.false, s.requires.0), stems_ready s.requires.1 e.before.if1.false e.if3.false a.put-values.ensures a.put-values.auto.1.1.1.0)
 
 put-values-sub-put-values-4 : (t : ℕ) → put-values-lts.Need-overflow-sub-put-values-4 (
   put_values_below t,
@@ -161,7 +161,7 @@ put-values-put-values-requires-3 t c κs =
     let a = b.before.before.before.before in
     let e = a.before.before in
     let s = e.before.before.before in
-    (omega (arith, e.before.if1.false, s.requires.0), forks-ready s.requires.1 e.before.if1.false e.if3.false a.put-values.ensures a.put-values.auto.1.1.1.0 b.put-values2.ensures b.put-values2.auto.1.1.1.0)
+    (omega (arith, e.before.if1.false, s.requires.0), forks_ready s.requires.1 e.before.if1.false e.if3.false a.put-values.ensures a.put-values.auto.1.1.1.0 b.put-values2.ensures b.put-values2.auto.1.1.1.0)
 
 put-values-same-length-2 : (t : ℕ) → put-values-lts.Need-same-length-2 (
   put_values_below t,
@@ -179,7 +179,7 @@ put-values-returns-4 t c =
     let a = b.before.before.before.before in
     let e = a.before.before in
     let s = e.before.before.before in
-    all-put s.requires.1 e.before.if1.false e.if3.false a.put-values.ensures a.put-values.auto.1.1.1.0 b.put-values2.ensures b.put-values2.auto.1.1.1.0 d.put-values3.ensures
+    all_put s.requires.1 e.before.if1.false e.if3.false a.put-values.ensures a.put-values.auto.1.1.1.0 b.put-values2.ensures b.put-values2.auto.1.1.1.0 d.put-values3.ensures
 
 pub +put-values-spec : {M : Type 1} → statement M
 +put-values-spec = close μ_put_values λ t. put-values-lts.spec (

@@ -1,7 +1,7 @@
 -- `encoder::encode` meets its contract: the operands before their symbol, from the end. Assumes nothing.
 use native.Mathlib.Omega.{arith}
 use mathlib.Core.Path.{◌∙◌}
-use Rattle.encoder.proofs.Writing.{the_place, two-parts, right-at, left_at, left-before, lead-asks, two-written, one-part, only_at, lead-asks-one, one_written, lead-asks-none, none_written}
+use Rattle.encoder.proofs.Writing.{the_place, two_parts, right_at, left_at, left_before, lead_asks, two_written, one_part, only_at, lead_asks_one, one_written, lead_asks_none, none_written}
 use Prim.Native.Nat.{ℕ, ◌<◌}
 use borrow.Fn.Kinds.{In}
 use borrow.Fn.PlainCycle.{Measures, is, falls, and}
@@ -59,7 +59,7 @@ encode-encode-requires : (t : ℕ) → encode-lts.Need-encode-requires (
   put-lead-reads.Asked,
   put-lead-reads.Learnt,
 ) (encode_at t) encode.Post
-encode-encode-requires t c κs = let q = c.before.before.before.before.before.requires.1.is in (omega (arith, the_place _ _ _ _ _ _ q, c.before.before.before.before.before.requires.0), record { e = (two-parts _ _ _ _ _ _ q c.before.if1.true).a; xs = _; is = right-at _ _ _ _ _ _ q c.before.if1.true })
+encode-encode-requires t c κs = let q = c.before.before.before.before.before.requires.1.is in (omega (arith, the_place _ _ _ _ _ _ q, c.before.before.before.before.before.requires.0), record { e = (two_parts _ _ _ _ _ _ q c.before.if1.true).a; xs = _; is = right_at _ _ _ _ _ _ q c.before.if1.true })
 
 encode-encode-requires-2 : (t : ℕ) → encode-lts.Need-encode-requires-2 (
   encode_below t,
@@ -69,8 +69,8 @@ encode-encode-requires-2 : (t : ℕ) → encode-lts.Need-encode-requires-2 (
 ) (encode_at t) encode.Post
 encode-encode-requires-2 t c κs =
     let q = c.before.before.before.before.before.before.before.before.before.requires.1.is in
-    let g = c.before.before.before.encode.ensures _ _ (right-at _ _ _ _ _ _ q c.before.before.before.before.before.if1.true) in
-    (omega (arith, left-before _ _ _ _ _ _ q c.before.before.before.before.before.if1.true _ _ _ c.before.before.before.encode.auto.1.1.0 g, c.before.before.before.before.before.before.before.before.before.requires.0), record { e = (two-parts _ _ _ _ _ _ q c.before.before.before.before.before.if1.true).f; xs = c.before.before.before.before.before.before.before.before.before.requires.1.xs; is = left_at _ _ _ _ _ _ q c.before.before.before.before.before.if1.true _ _ _ c.before.before.before.encode.auto.1.1.0 g })
+    let g = c.before.before.before.encode.ensures _ _ (right_at _ _ _ _ _ _ q c.before.before.before.before.before.if1.true) in
+    (omega (arith, left_before _ _ _ _ _ _ q c.before.before.before.before.before.if1.true _ _ _ c.before.before.before.encode.auto.1.1.0 g, c.before.before.before.before.before.before.before.before.before.requires.0), record { e = (two_parts _ _ _ _ _ _ q c.before.before.before.before.before.if1.true).f; xs = c.before.before.before.before.before.before.before.before.before.requires.1.xs; is = left_at _ _ _ _ _ _ q c.before.before.before.before.before.if1.true _ _ _ c.before.before.before.encode.auto.1.1.0 g })
 
 encode-put-lead-requires : (t : ℕ) → encode-lts.Need-put-lead-requires (
   encode_below t,
@@ -80,9 +80,9 @@ encode-put-lead-requires : (t : ℕ) → encode-lts.Need-put-lead-requires (
 ) (encode_at t) encode.Post
 encode-put-lead-requires t c κs =
     let q = c.before.before.before.before.before.before.before.before.before.before.before.before.before.requires.1.is in
-    let g = c.before.before.before.before.before.before.before.encode.ensures _ _ (right-at _ _ _ _ _ _ q c.before.before.before.before.before.before.before.before.before.if1.true) in
+    let g = c.before.before.before.before.before.before.before.encode.ensures _ _ (right_at _ _ _ _ _ _ q c.before.before.before.before.before.before.before.before.before.if1.true) in
     let h = c.before.before.before.encode2.ensures _ _ (left_at _ _ _ _ _ _ q c.before.before.before.before.before.before.before.before.before.if1.true _ _ _ c.before.before.before.before.before.before.before.encode.auto.1.1.0 g) in
-    lead-asks _ _ _ _ _ _ q c.before.before.before.before.before.before.before.before.before.if1.true _ _ _ c.before.before.before.before.before.before.before.encode.auto.1.1.0 g _ _ _ c.before.before.before.encode2.auto.1.1.0 h
+    lead_asks _ _ _ _ _ _ q c.before.before.before.before.before.before.before.before.before.if1.true _ _ _ c.before.before.before.before.before.before.before.encode.auto.1.1.0 g _ _ _ c.before.before.before.encode2.auto.1.1.0 h
 
 encode-same-length : (t : ℕ) → encode-lts.Need-same-length (
   encode_below t,
@@ -99,9 +99,9 @@ encode-returns : (t : ℕ) → encode-lts.Need-returns (
   put-lead-reads.Learnt,
 ) (encode_at t) encode.Post
 encode-returns t c = λ e xs q.
-    let g = c.before.before.before.before.before.before.before.before.before.before.encode.ensures _ _ (right-at _ _ _ _ _ _ q c.before.before.before.before.before.before.before.before.before.before.before.before.if1.true) in
+    let g = c.before.before.before.before.before.before.before.before.before.before.encode.ensures _ _ (right_at _ _ _ _ _ _ q c.before.before.before.before.before.before.before.before.before.before.before.before.if1.true) in
     let h = c.before.before.before.before.before.before.encode2.ensures _ _ (left_at _ _ _ _ _ _ q c.before.before.before.before.before.before.before.before.before.before.before.before.if1.true _ _ _ c.before.before.before.before.before.before.before.before.before.before.encode.auto.1.1.0 g) in
-    two-written _ _ _ _ _ _ q c.before.before.before.before.before.before.before.before.before.before.before.before.if1.true _ _ _ c.before.before.before.before.before.before.before.before.before.before.encode.auto.1.1.0 g _ _ _ c.before.before.before.before.before.before.encode2.auto.1.1.0 h _ _ c.before.before.put-lead.ensures
+    two_written _ _ _ _ _ _ q c.before.before.before.before.before.before.before.before.before.before.before.before.if1.true _ _ _ c.before.before.before.before.before.before.before.before.before.before.encode.auto.1.1.0 g _ _ _ c.before.before.before.before.before.before.encode2.auto.1.1.0 h _ _ c.before.before.put-lead.ensures
 
 encode-sub-encode-2 : (t : ℕ) → encode-lts.Need-overflow-sub-encode-2 (
   encode_below t,
@@ -117,7 +117,7 @@ encode-encode-requires-3 : (t : ℕ) → encode-lts.Need-encode-requires-3 (
   put-lead-reads.Asked,
   put-lead-reads.Learnt,
 ) (encode_at t) encode.Post
-encode-encode-requires-3 t c κs = let q = c.before.before.before.before.before.before.requires.1.is in (omega (arith, the_place _ _ _ _ _ _ q, c.before.before.before.before.before.before.requires.0), record { e = (one-part _ _ _ _ _ _ q c.before.before.if1.false c.before.if2.true).a; xs = _; is = only_at _ _ _ _ _ _ q c.before.before.if1.false c.before.if2.true })
+encode-encode-requires-3 t c κs = let q = c.before.before.before.before.before.before.requires.1.is in (omega (arith, the_place _ _ _ _ _ _ q, c.before.before.before.before.before.before.requires.0), record { e = (one_part _ _ _ _ _ _ q c.before.before.if1.false c.before.if2.true).a; xs = _; is = only_at _ _ _ _ _ _ q c.before.before.if1.false c.before.if2.true })
 
 encode-put-lead-requires-2 : (t : ℕ) → encode-lts.Need-put-lead-requires-2 (
   encode_below t,
@@ -127,7 +127,7 @@ encode-put-lead-requires-2 : (t : ℕ) → encode-lts.Need-put-lead-requires-2 (
 ) (encode_at t) encode.Post
 encode-put-lead-requires-2 t c κs =
     let q = c.before.before.before.before.before.before.before.before.before.before.requires.1.is in
-    lead-asks-one _ _ _ _ _ _ q c.before.before.before.before.before.before.if1.false c.before.before.before.before.before.if2.true _ _ _ c.before.before.before.encode3.auto.1.1.0 (c.before.before.before.encode3.ensures _ _ (only_at _ _ _ _ _ _ q c.before.before.before.before.before.before.if1.false c.before.before.before.before.before.if2.true))
+    lead_asks_one _ _ _ _ _ _ q c.before.before.before.before.before.before.if1.false c.before.before.before.before.before.if2.true _ _ _ c.before.before.before.encode3.auto.1.1.0 (c.before.before.before.encode3.ensures _ _ (only_at _ _ _ _ _ _ q c.before.before.before.before.before.before.if1.false c.before.before.before.before.before.if2.true))
 
 encode-same-length-2 : (t : ℕ) → encode-lts.Need-same-length-2 (
   encode_below t,
@@ -152,7 +152,7 @@ encode-put-lead-requires-3 : (t : ℕ) → encode-lts.Need-put-lead-requires-3 (
   put-lead-reads.Asked,
   put-lead-reads.Learnt,
 ) (encode_at t) encode.Post
-encode-put-lead-requires-3 t c κs = lead-asks-none _ _ _ _ _ _ c.before.before.before.before.before.before.requires.1.is c.before.if2.false
+encode-put-lead-requires-3 t c κs = lead_asks_none _ _ _ _ _ _ c.before.before.before.before.before.before.requires.1.is c.before.if2.false
 
 encode-sub-t16 : (t : ℕ) → encode-lts.Need-overflow-sub-t16 (
   encode_below t,

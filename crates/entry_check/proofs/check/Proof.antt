@@ -1,6 +1,6 @@
 -- `entry_check::check` meets its contract: 1, and the table's length. Assumes nothing.
 use borrow.Author.Tests.{not-true, not-false}
-use Rattle.checks.proofs.Entry.{too_long, not_within, long-stack}
+use Rattle.checks.proofs.Entry.{too_long, not_within, long_stack}
 use borrow.Author.Rules.{rules}
 use Rattle.entry_check.proofs.check.Statement.{statement}
 use Rattle.entry_check.proofs.check.Tie as tie
@@ -24,7 +24,7 @@ returns-4 : tie.Need-returns-4
 returns-4 c = search rules
 
 returns-5 : tie.Need-returns-5
-returns-5 c = long-stack _ _ _ _ (not-false _ c.before.before.if3.false) c.before.before.before.before.if1.false c.if5.true
+returns-5 c = long_stack _ _ _ _ (not-false _ c.before.before.if3.false) c.before.before.before.before.if1.false c.if5.true
 
 check-8192-requires : tie.Need-check-8192-requires
 check-8192-requires c κs = search rules

@@ -3,7 +3,7 @@
 use Prim.Native.Nat.{◌-◌}
 use native.Mathlib.Omega.{arith}
 use Rattle.generator.proofs.Between.{wanted_between}
-use Rattle.generator.proofs.Writing.{WritingLoad, writing_start, writing_length, digit-ends, wants-one, writing-digit, writing_done}
+use Rattle.generator.proofs.Writing.{WritingLoad, writing_start, writing_length, digit_ends, wants_one, writing_digit, writing_done}
 use Rattle.generator.proofs.write_load.Statement.{statement}
 use Rattle.generator.proofs.write_load.Tie as tie
 
@@ -28,7 +28,7 @@ sub-branches-2 c = omega (arith, c.before.loop-test.true)
 branches-requires : tie.Need-branches-requires invariant-loop decreases-loop
 branches-requires c κs =
     let a = c.before.before in
-    (digit-ends a.loop.invariant c.before.loop-test.true, omega (arith, a.before.before.requires.3))
+    (digit_ends a.loop.invariant c.before.loop-test.true, omega (arith, a.before.before.requires.3))
 
 cast-out : tie.Need-overflow-cast-out invariant-loop decreases-loop
 cast-out c = omega (arith, c.branches.ensures.1)
@@ -43,13 +43,13 @@ slice-write-out c =
     omega (arith, t.loop-test.true, a.before.before.requires.2, writing_length a.loop.invariant a.before.before.requires.2)
 
 sub-wanted : tie.Need-overflow-sub-wanted invariant-loop decreases-loop
-sub-wanted c = let t = c.before.before in wants-one t.before.loop.invariant t.loop-test.true
+sub-wanted c = let t = c.before.before in wants_one t.before.loop.invariant t.loop-test.true
 
 add-wanted : tie.Need-overflow-add-wanted invariant-loop decreases-loop
 add-wanted c =
     let t = c.before.before in
     let a = t.before in
-    omega (arith, (wanted_between _ _ (digit-ends a.loop.invariant t.loop-test.true)).1, c.branches.ensures.1, a.before.before.requires.3)
+    omega (arith, (wanted_between _ _ (digit_ends a.loop.invariant t.loop-test.true)).1, c.branches.ensures.1, a.before.before.requires.3)
 
 add-i : tie.Need-overflow-add-i invariant-loop decreases-loop
 add-i c = let t = c.before.before in omega (arith, t.loop-test.true, t.before.before.before.requires.3)
@@ -61,7 +61,7 @@ loop-again : tie.Need-loop-preserved invariant-loop decreases-loop
 loop-again c =
     let t = c.before.before in
     let a = t.before in
-    writing-digit a.loop.invariant t.loop-test.true c.before.next-state.ensures c.branches.ensures (omega (arith, t.loop-test.true, a.before.before.requires.2))
+    writing_digit a.loop.invariant t.loop-test.true c.before.next-state.ensures c.branches.ensures (omega (arith, t.loop-test.true, a.before.before.requires.2))
 
 same_length : tie.Need-same-length invariant-loop decreases-loop
 same_length c = let a = c.before in writing_length a.loop.invariant a.before.before.requires.2

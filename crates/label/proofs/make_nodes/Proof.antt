@@ -1,6 +1,6 @@
 -- `label::make_nodes` meets its contract: the leaf or the second branch has no place, or the whole is wanted after them. Assumes nothing.
 use native.Mathlib.Omega.{arith}
-use Rattle.index.proofs.Ready.{node-got, node_ready}
+use Rattle.index.proofs.Ready.{node_got, node_ready}
 use Rattle.table.proofs.Making.{leaf_words}
 use Rattle.label.proofs.Ways.{one_stands, rule_stands, no_place, goes_on, of_nodes}
 use borrow.Author.Rules.{rules}
@@ -30,7 +30,7 @@ make-rule-requires c κs =
     let p = c.before.before.before.before.before.before.before.before.before.before.before.before.before.before.requires in
     let m = c.before.before.before.before.before.before.before.before.before.make.ensures in
     let q = c.before.before.before.leaf.given.1 in
-    let d = one_stands p.0.fine _ _ leaf_words (node-got m.0 q) in
+    let d = one_stands p.0.fine _ _ leaf_words (node_got m.0 q) in
     (node_ready m.1 q, d.inside, omega (arith, p.1, d.up))
 
 enum-known-fifth : tie.Need-enum-known-fifth
@@ -55,10 +55,10 @@ make-whole-requires c κs =
     let p = c.before.before.before.before.before.before.before.before.before.before.before.before.before.before.before.before.before.before.before.before.before.before.before.before.requires in
     let m = c.before.before.before.before.before.before.before.before.before.before.before.before.before.before.before.before.before.before.before.make.ensures in
     let q = c.before.before.before.before.before.before.before.before.before.before.before.before.before.leaf.given.1 in
-    let d = one_stands p.0.fine _ _ leaf_words (node-got m.0 q) in
+    let d = one_stands p.0.fine _ _ leaf_words (node_got m.0 q) in
     let n = c.before.before.before.before.before.before.before.before.before.make-rule.ensures in
     let r = c.before.before.before.fifth.given.1 in
-    let k = rule_stands d.fine _ _ d.inside (omega (arith, p.1, d.up)) (node-got n.0 r) in
+    let k = rule_stands d.fine _ _ d.inside (omega (arith, p.1, d.up)) (node_got n.0 r) in
     (node_ready n.1 r, omega (arith, d.inside, k.up), omega (arith, p.2, d.up, k.up), k.inside)
 
 same-length-5 : tie.Need-same-length-5

@@ -1,6 +1,6 @@
 -- `label::make_rule` meets its contract: KK has no place, or the spread is wanted after it. Assumes nothing.
 use native.Mathlib.Omega.{arith}
-use Rattle.index.proofs.Ready.{node-got, node_ready}
+use Rattle.index.proofs.Ready.{node_got, node_ready}
 use Rattle.label.specs.Code.{rule_nodes}
 use Rattle.label.proofs.Ways.{constant_stands, no_place, goes_on}
 use borrow.Author.Rules.{rules}
@@ -31,7 +31,7 @@ make-spread-requires c κs =
     let p = c.before.before.before.before.before.before.before.before.before.before.before.before.before.before.requires in
     let m = c.before.before.before.before.before.before.before.before.before.make-constant.ensures in
     let q = c.before.before.before.third.given.1 in
-    let d = constant_stands p.0.fine _ p.1 (node-got m.0 q) in
+    let d = constant_stands p.0.fine _ p.1 (node_got m.0 q) in
     (node_ready m.1 q, omega (arith, p.2, d.up), d.inside)
 
 same-length-3 : tie.Need-same-length-3

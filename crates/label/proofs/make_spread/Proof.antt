@@ -1,6 +1,6 @@
 -- `label::make_spread` meets its contract: the stem has no place, or the fork is wanted after it. Assumes nothing.
 use native.Mathlib.Omega.{arith}
-use Rattle.index.proofs.Ready.{node-got, node_ready}
+use Rattle.index.proofs.Ready.{node_got, node_ready}
 use Rattle.label.specs.Code.{spread_nodes}
 use Rattle.table.proofs.Making.{stem_words, fork_words}
 use Rattle.label.proofs.Ways.{one_stands, no_place, goes_on}
@@ -35,7 +35,7 @@ add-make-2 c =
     let p = c.before.before.before.before.before.before.before.before.before.before.before.before.before.before.requires in
     let m = c.before.before.before.before.before.before.before.before.before.make.ensures in
     let q = c.before.before.before.stem.given.1 in
-    let d = one_stands p.0.fine _ _ (stem_words p.1) (node-got m.0 q) in
+    let d = one_stands p.0.fine _ _ (stem_words p.1) (node_got m.0 q) in
     let r = (node_ready m.1 q).fine in
     omega (arith, r.short, r.within, d.inside)
 
@@ -47,7 +47,7 @@ make-requires-2 c κs =
     let p = c.before.before.before.before.before.before.before.before.before.before.before.before.before.before.requires in
     let m = c.before.before.before.before.before.before.before.before.before.make.ensures in
     let q = c.before.before.before.stem.given.1 in
-    let d = one_stands p.0.fine _ _ (stem_words p.1) (node-got m.0 q) in
+    let d = one_stands p.0.fine _ _ (stem_words p.1) (node_got m.0 q) in
     (node_ready m.1 q, fork_words d.inside (omega (arith, p.2, d.up)))
 
 same-length-3 : tie.Need-same-length-3

@@ -1,6 +1,6 @@
 -- `label::make_whole` meets its contract: Kt has no place, or the spread is wanted after it. Assumes nothing.
 use native.Mathlib.Omega.{arith}
-use Rattle.index.proofs.Ready.{node-got, node_ready}
+use Rattle.index.proofs.Ready.{node_got, node_ready}
 use Rattle.label.specs.Code.{whole_nodes}
 use Rattle.table.proofs.Making.{fork_words}
 use Rattle.label.proofs.Ways.{one_stands, no_place, goes_on}
@@ -38,7 +38,7 @@ make-spread-requires c κs =
     let p = c.before.before.before.before.before.before.before.before.before.before.before.before.before.before.requires in
     let m = c.before.before.before.before.before.before.before.before.before.make.ensures in
     let q = c.before.before.before.sixth.given.1 in
-    let d = one_stands p.0.fine _ _ (fork_words p.1 p.2) (node-got m.0 q) in
+    let d = one_stands p.0.fine _ _ (fork_words p.1 p.2) (node_got m.0 q) in
     (node_ready m.1 q, d.inside, omega (arith, p.3, d.up))
 
 same-length-3 : tie.Need-same-length-3

@@ -1,7 +1,7 @@
 -- `labeller::label_1024` meets its contract: its array is an empty index for the table, which is empty too. Assumes nothing.
 use native.Mathlib.Omega.{arith}
 use Rattle.index.proofs.Ready.{empty_index, ready_none}
-use Rattle.labeller.proofs.Ways.{parts, refused, label-within, asked, passed}
+use Rattle.labeller.proofs.Ways.{parts, refused, label_within, asked, passed}
 use borrow.Author.Rules.{rules}
 use Rattle.labeller.proofs.label_1024.Statement.{statement}
 use Rattle.labeller.proofs.label_1024.Tie as tie
@@ -24,7 +24,7 @@ enum_told : tie.Need-enum-told
 enum_told c = search rules
 
 sub_at : tie.Need-overflow-sub-at
-sub_at c = let a = c.before.before.before.before.before.before.before.args in label-within a.table.now a.stack.now a.out.now a.packet.now c.before.before.before.before.before.before.before.requires.1 c.before.before.before.before.before.before.before.requires.3.1 c.before.before.before.before.before.before.before.requires.2
+sub_at c = let a = c.before.before.before.before.before.before.before.args in label_within a.table.now a.stack.now a.out.now a.packet.now c.before.before.before.before.before.before.before.requires.1 c.before.before.before.before.before.before.before.requires.3.1 c.before.before.before.before.before.before.before.requires.2
 
 slice-aggregate-label-stages : tie.Need-slice-aggregate-label-stages
 slice-aggregate-label-stages c = search rules

@@ -3,7 +3,7 @@ use native.Mathlib.Omega.{arith}
 use Prim.Native.Nat.{◌-◌}
 use mathlib.Core.Path.{◌∙◌, sym}
 use lib.ListN.{length}
-use Rattle.lexer.proofs.Lexing.{Lexing, lexing_start, lexing-long, lexing-letter, lexing-space, lexing-broken, lexing-sign, lexing_done, lexes_broken, top_small}
+use Rattle.lexer.proofs.Lexing.{Lexing, lexing_start, lexing_long, lexing_letter, lexing_space, lexing_broken, lexing_sign, lexing_done, lexes_broken, top_small}
 use Rattle.lexer.proofs.lex.Statement.{statement}
 use Rattle.lexer.proofs.lex.Tie as tie
 
@@ -26,7 +26,7 @@ same_length : tie.Need-same-length invariant-loop decreases-loop
 same_length c = c.before.before.before.before.before.loop.invariant.same
 
 returns : tie.Need-returns invariant-loop decreases-loop
-returns c = lexes_broken _ _ _ (lexing-long _ _ _ _ _ _ _ c.before.before.before.before.before.loop.invariant c.before.before.before.before.loop-test.true (sym c.before.if1.true ∙ c.before.before.is-letter.ensures) c.if2.true)
+returns c = lexes_broken _ _ _ (lexing_long _ _ _ _ _ _ _ c.before.before.before.before.before.loop.invariant c.before.before.before.before.loop-test.true (sym c.before.if1.true ∙ c.before.before.is-letter.ensures) c.if2.true)
 
 mul-w : tie.Need-overflow-mul-w invariant-loop decreases-loop
 mul-w c = omega (arith, top_small c.before.before.before.before.before.loop.k (omega (arith, c.before.before.before.before.before.loop.invariant.letters, c.if2.false)), c.before.before.before.before.before.loop.invariant.below)
@@ -47,7 +47,7 @@ loop-less : tie.Need-loop-smaller invariant-loop decreases-loop
 loop-less c = omega arith
 
 loop-again : tie.Need-loop-preserved invariant-loop decreases-loop
-loop-again c = lexing-letter _ _ _ _ _ _ _ c.before.before.before.before.before.loop.invariant c.before.before.before.before.loop-test.true (sym c.before.if1.true ∙ c.before.before.is-letter.ensures) c.if2.false (omega (arith, c.before.before.before.shared-slice-known2.given c.before.before.before.before.before.loop.i))
+loop-again c = lexing_letter _ _ _ _ _ _ _ c.before.before.before.before.before.loop.invariant c.before.before.before.before.loop-test.true (sym c.before.if1.true ∙ c.before.before.is-letter.ensures) c.if2.false (omega (arith, c.before.before.before.shared-slice-known2.given c.before.before.before.before.before.loop.i))
 
 flush-requires : tie.Need-flush-requires invariant-loop decreases-loop
 flush-requires c κs = omega (arith, c.before.before.before.before.before.loop.invariant.few, c.before.before.before.before.before.loop.invariant.within, c.before.before.before.before.before.loop.invariant.same)
@@ -59,7 +59,7 @@ loop-less-2 : tie.Need-loop-smaller-2 invariant-loop decreases-loop
 loop-less-2 c = omega arith
 
 loop-again-2 : tie.Need-loop-preserved-2 invariant-loop decreases-loop
-loop-again-2 c = lexing-space _ _ _ _ _ _ _ c.before.before.before.before.before.before.before.before.before.loop.invariant c.before.before.before.before.before.before.before.before.loop-test.true (sym c.before.before.before.before.before.if1.false ∙ c.before.before.before.before.before.before.is-letter.ensures) _ _ c.before.before.before.flush.auto.0 c.before.before.before.flush.ensures c.if3.true
+loop-again-2 c = lexing_space _ _ _ _ _ _ _ c.before.before.before.before.before.before.before.before.before.loop.invariant c.before.before.before.before.before.before.before.before.loop-test.true (sym c.before.before.before.before.before.if1.false ∙ c.before.before.before.before.before.before.is-letter.ensures) _ _ c.before.before.before.flush.auto.0 c.before.before.before.flush.ensures c.if3.true
 
 is-sign-requires : tie.Need-is-sign-requires invariant-loop decreases-loop
 is-sign-requires c κs = tt
@@ -68,7 +68,7 @@ same-length-2 : tie.Need-same-length-2 invariant-loop decreases-loop
 same-length-2 c = c.before.before.before.before.before.flush.auto.0 ∙ c.before.before.before.before.before.before.before.before.before.before.before.loop.invariant.same
 
 returns-2 : tie.Need-returns-2 invariant-loop decreases-loop
-returns-2 c = lexes_broken _ _ _ (lexing-broken _ _ _ _ _ _ _ c.before.before.before.before.before.before.before.before.before.before.before.loop.invariant c.before.before.before.before.before.before.before.before.before.before.loop-test.true (sym c.before.before.before.before.before.before.before.if1.false ∙ c.before.before.before.before.before.before.before.before.is-letter.ensures) _ _ c.before.before.before.before.before.flush.auto.0 c.before.before.before.before.before.flush.ensures c.before.before.if3.false c.before.is_sign_lem.result c.before.is_sign_lem.ensures c.if4.true)
+returns-2 c = lexes_broken _ _ _ (lexing_broken _ _ _ _ _ _ _ c.before.before.before.before.before.before.before.before.before.before.before.loop.invariant c.before.before.before.before.before.before.before.before.before.before.loop-test.true (sym c.before.before.before.before.before.before.before.if1.false ∙ c.before.before.before.before.before.before.before.before.is-letter.ensures) _ _ c.before.before.before.before.before.flush.auto.0 c.before.before.before.before.before.flush.ensures c.before.before.if3.false c.before.is_sign_lem.result c.before.is_sign_lem.ensures c.if4.true)
 
 cast-words : tie.Need-overflow-cast-words invariant-loop decreases-loop
 cast-words c = omega (arith, c.before.before.before.before.before.before.before.before.before.shared-slice-known2.given c.before.before.before.before.before.before.before.before.before.before.before.loop.i)
@@ -86,7 +86,7 @@ loop-less-3 : tie.Need-loop-smaller-3 invariant-loop decreases-loop
 loop-less-3 c = omega arith
 
 loop-again-3 : tie.Need-loop-preserved-3 invariant-loop decreases-loop
-loop-again-3 c = lexing-sign _ _ _ _ _ _ _ c.before.before.before.before.before.before.before.before.before.before.before.loop.invariant c.before.before.before.before.before.before.before.before.before.before.loop-test.true (sym c.before.before.before.before.before.before.before.if1.false ∙ c.before.before.before.before.before.before.before.before.is-letter.ensures) _ _ c.before.before.before.before.before.flush.auto.0 c.before.before.before.before.before.flush.ensures c.before.before.if3.false c.before.is_sign_lem.result c.before.is_sign_lem.ensures c.if4.false (omega (arith, c.before.before.before.before.before.flush.ensures.most, c.before.before.before.before.before.before.before.before.before.before.before.loop.invariant.few, c.before.before.before.before.before.before.before.before.before.before.before.loop.invariant.same, c.before.before.before.before.before.flush.auto.0))
+loop-again-3 c = lexing_sign _ _ _ _ _ _ _ c.before.before.before.before.before.before.before.before.before.before.before.loop.invariant c.before.before.before.before.before.before.before.before.before.before.loop-test.true (sym c.before.before.before.before.before.before.before.if1.false ∙ c.before.before.before.before.before.before.before.before.is-letter.ensures) _ _ c.before.before.before.before.before.flush.auto.0 c.before.before.before.before.before.flush.ensures c.before.before.if3.false c.before.is_sign_lem.result c.before.is_sign_lem.ensures c.if4.false (omega (arith, c.before.before.before.before.before.flush.ensures.most, c.before.before.before.before.before.before.before.before.before.before.before.loop.invariant.few, c.before.before.before.before.before.before.before.before.before.before.before.loop.invariant.same, c.before.before.before.before.before.flush.auto.0))
 
 flush-requires-2 : tie.Need-flush-requires-2 invariant-loop decreases-loop
 flush-requires-2 c κs = omega (arith, c.before.before.loop.invariant.few, c.before.before.loop.invariant.within, c.before.before.loop.invariant.same)

@@ -1,6 +1,6 @@
 -- `machine::settle` meets its contract: each way that an application ends. Assumes nothing.
 use mathlib.Core.Path.{refl}
-use Rattle.machine.proofs.Settled.{settle_done, settle-more, settle-nodes, settle-frames}
+use Rattle.machine.proofs.Settled.{settle_done, settle_more, settle_nodes, settle_frames}
 use borrow.Author.Rules.{rules}
 use Rattle.machine.proofs.settle.Statement.{statement}
 use Rattle.machine.proofs.settle.Tie as tie
@@ -44,7 +44,7 @@ returns c =
     let m = d.before.before in
     let z = m.before.before.before.before.before in
     let a = z.before.before.before.before.args in
-    settle-more a.used a.table.now a.stack.now d.undo.new.0 z.clear.new.0 a.turned _ z.clear.ensures d.undo.ensures.1 m.enum_told.given.1 d.undo.ensures.0
+    settle_more a.used a.table.now a.stack.now d.undo.new.0 z.clear.new.0 a.turned _ z.clear.ensures d.undo.ensures.1 m.enum_told.given.1 d.undo.ensures.0
 
 same-length-3 : tie.Need-same-length-3
 same-length-3 c = search rules
@@ -68,7 +68,7 @@ returns-3 c =
     let m = d.before.before in
     let z = m.before.before.before.before.before in
     let a = z.before.before.before.before.args in
-    settle-nodes a.used a.table.now a.stack.now d.undo2.new.0 z.clear.new.0 a.turned _ z.clear.ensures d.undo2.ensures.1 m.enum-told3.given.1 d.undo2.ensures.0
+    settle_nodes a.used a.table.now a.stack.now d.undo2.new.0 z.clear.new.0 a.turned _ z.clear.ensures d.undo2.ensures.1 m.enum-told3.given.1 d.undo2.ensures.0
 
 same-length-6 : tie.Need-same-length-6
 same-length-6 c = search rules
@@ -82,7 +82,7 @@ returns-4 c =
     let m = d.before.before in
     let z = m.before.before.before.before.before in
     let a = z.before.before.before.before.args in
-    settle-frames a.used a.table.now a.stack.now d.undo3.new.0 z.clear.new.0 a.turned _ z.clear.ensures d.undo3.ensures.1 m.enum-told4.given.1 d.undo3.ensures.0
+    settle_frames a.used a.table.now a.stack.now d.undo3.new.0 z.clear.new.0 a.turned _ z.clear.ensures d.undo3.ensures.1 m.enum-told4.given.1 d.undo3.ensures.0
 
 pub settle_spec : {M : Type 1} → statement M
 settle_spec =

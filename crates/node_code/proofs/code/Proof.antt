@@ -9,7 +9,7 @@ use Rattle.table.specs.declared.Given.TheVariants.{Refused}
 use Rattle.table.proofs.Entry.{entered, check_refuses}
 use Rattle.short_codes.specs.ShortCodes as coding
 use Rattle.short_codes.proofs.Numerals.{padded_least}
-use Rattle.node_code.proofs.Ways.{no_node, long-none, short-coded}
+use Rattle.node_code.proofs.Ways.{no_node, long_none, short_coded}
 use borrow.Author.Rules.{rules}
 use Rattle.node_code.proofs.code.Statement.{statement}
 use Rattle.node_code.proofs.code.Tie as tie
@@ -54,12 +54,12 @@ enum-told-2 c = search rules
 returns-3 : tie.Need-returns-3
 returns-3 c =
     let t = c.before.before.before.before in
-    short-coded _ _ _ (passed t.before.before) t.before.if1.false (sym t.take-text.ensures ∙ c.before.before.taken.given.1) c.place-at-most.ensures
+    short_coded _ _ _ (passed t.before.before) t.before.if1.false (sym t.take-text.ensures ∙ c.before.before.taken.given.1) c.place-at-most.ensures
 
 returns-4 : tie.Need-returns-4
 returns-4 c =
     let t = c.before.before in
-    long-none _ _ _ (passed t.before.before) t.before.if1.false (sym t.take-text.ensures ∙ c.enum-told2.given.1)
+    long_none _ _ _ (passed t.before.before) t.before.if1.false (sym t.take-text.ensures ∙ c.enum-told2.given.1)
 
 pub code_spec : {M : Type 1} → statement M
 code_spec =

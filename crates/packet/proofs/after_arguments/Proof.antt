@@ -3,7 +3,7 @@ use mathlib.Core.Path.{◌≡◌, refl, sym, ◌∙◌}
 use native.Mathlib.Omega.{arith}
 use Prim.Native.Nat.{◌+◌}
 use Rattle.packet.specs.Code.{end_at}
-use Rattle.packet.proofs.Forms.{arguments-other, arguments-size, arguments_most, arguments-limit}
+use Rattle.packet.proofs.Forms.{arguments_other, arguments_size, arguments_most, arguments_limit}
 use borrow.Author.Rules.{rules}
 use Rattle.packet.proofs.after_arguments.Statement.{statement}
 use Rattle.packet.proofs.after_arguments.Tie as tie
@@ -17,7 +17,7 @@ after-limit-requires c κs = search rules
 returns : tie.Need-returns
 returns c =
     let a = c.before.before.before.before.args in
-    λ q. c.after-limit.ensures q ∙ arguments-other a.packet.now a.at a.count c.before.before.before.before.requires q c.before.if1.true
+    λ q. c.after-limit.ensures q ∙ arguments_other a.packet.now a.at a.count c.before.before.before.before.requires q c.before.if1.true
 
 part-at-requires : tie.Need-part-at-requires
 part-at-requires c κs = search rules
@@ -28,7 +28,7 @@ add-if2 c = rw c.part_at.ensures (omega arith)
 returns-2 : tie.Need-returns-2
 returns-2 c =
     let a = c.before.before.before.before.before.args in
-    λ q. arguments-size a.packet.now a.at a.count c.before.before.before.before.before.requires q c.before.before.if1.false (rw c.before.part_at.ensures at c.if2.true)
+    λ q. arguments_size a.packet.now a.at a.count c.before.before.before.before.before.requires q c.before.before.if1.false (rw c.before.part_at.ensures at c.if2.true)
 
 four-bytes-requires : tie.Need-four-bytes-requires
 four-bytes-requires c κs =
@@ -46,7 +46,7 @@ after-limit-requires-2 c κs = rw c.before.before.before.part_at.ensures c.befor
 returns-4 : tie.Need-returns-4
 returns-4 c =
     let a = c.before.before.before.before.before.before.before.before.args in
-    λ q. c.after-limit2.ensures q ∙ rw c.before.before.before.before.part_at.ensures (arguments-limit a.packet.now a.at a.count c.before.before.before.before.before.before.before.before.requires q c.before.before.before.before.before.if1.false (rw c.before.before.before.before.part_at.ensures at c.before.before.before.if2.false) _ (rw c.before.before.before.before.part_at.ensures at c.before.before.four_bytes.ensures) c.before.if3.false refl)
+    λ q. c.after-limit2.ensures q ∙ rw c.before.before.before.before.part_at.ensures (arguments_limit a.packet.now a.at a.count c.before.before.before.before.before.before.before.before.requires q c.before.before.before.before.before.if1.false (rw c.before.before.before.before.part_at.ensures at c.before.before.before.if2.false) _ (rw c.before.before.before.before.part_at.ensures at c.before.before.four_bytes.ensures) c.before.if3.false refl)
 
 pub after_arguments_spec : {M : Type 1} → statement M
 after_arguments_spec =

@@ -1,7 +1,7 @@
 -- `packet::after_limit` meets its contract: what is no label, or not the last field, is refused. Assumes nothing.
 use mathlib.Core.Path.{◌≡◌, refl, sym, ◌∙◌}
 use native.Mathlib.Omega.{arith}
-use Rattle.packet.proofs.Forms.{is_nothing, is_field, limit_end, left_broken, limit-tag, limit-more, limit-label}
+use Rattle.packet.proofs.Forms.{is_nothing, is_field, limit_end, left_broken, limit_tag, limit_more, limit_label}
 use borrow.Author.Rules.{rules}
 use Rattle.packet.proofs.after_limit.Statement.{statement}
 use Rattle.packet.proofs.after_limit.Tie as tie
@@ -27,13 +27,13 @@ returns-3 : tie.Need-returns-3
 returns-3 c =
     let a = c.before.before.before.before.before.before.before.args in
     let g = is_field a.packet.now a.at _ _ (sym c.before.before.tag.given.1 ∙ c.before.before.before.before.field_at.ensures) in
-    λ q. limit-tag a.packet.now a.at a.count g.2 q a.limit (λ e. c.if2.true (g.0 ∙ e))
+    λ q. limit_tag a.packet.now a.at a.count g.2 q a.limit (λ e. c.if2.true (g.0 ∙ e))
 
 returns-4 : tie.Need-returns-4
 returns-4 c =
     let a = c.before.before.before.before.before.before.before.before.args in
     let g = is_field a.packet.now a.at _ _ (sym c.before.before.before.tag.given.1 ∙ c.before.before.before.before.before.field_at.ensures) in
-    λ q. limit-more a.packet.now a.at a.count g.2 q a.limit (λ e. c.if3.true (g.1 ∙ e))
+    λ q. limit_more a.packet.now a.at a.count g.2 q a.limit (λ e. c.if3.true (g.1 ∙ e))
 
 sub-t7 : tie.Need-overflow-sub-t7
 sub-t7 c =
@@ -45,7 +45,7 @@ returns-5 : tie.Need-returns-5
 returns-5 c =
     let a = c.before.before.before.before.before.before.before.before.args in
     let g = is_field a.packet.now a.at _ _ (sym c.before.before.before.tag.given.1 ∙ c.before.before.before.before.before.field_at.ensures) in
-    λ q. limit-label a.packet.now a.at a.count g.2 q a.limit (sym g.0 ∙ c.before.if2.false) _ g.1 (sym g.1 ∙ c.if3.false)
+    λ q. limit_label a.packet.now a.at a.count g.2 q a.limit (sym g.0 ∙ c.before.if2.false) _ g.1 (sym g.1 ∙ c.if3.false)
 
 pub after_limit_spec : {M : Type 1} → statement M
 after_limit_spec =

@@ -8,7 +8,7 @@ use native.Mathlib.Omega.{arith}
 use borrow.Author.Rules.{rules}
 use Rattle.fields.specs.Packet.{after_rule}
 use Rattle.packet.specs.Code.{fields_from, with_fields, form_of, counted}
-use Rattle.packet.proofs.Forms.{is_nothing, is_field, counted_none, left_broken, after_end, after_last, after-ninth, after_next}
+use Rattle.packet.proofs.Forms.{is_nothing, is_field, counted_none, left_broken, after_end, after_last, after_ninth, after_next}
 use Rattle.packet.proofs.after_rule.Statement.{statement}
 use Rattle.packet.proofs.after_rule.Tie as tie
 
@@ -47,7 +47,7 @@ returns-2 c =
 returns-3 : tie.Need-returns-3 invariant-loop decreases-loop
 returns-3 c =
     let g = is_field c.before.before.before.before.before.before.before.before.before.args.packet.now c.before.before.before.before.before.before.before.loop.at _ _ (sym c.before.before.before.tag.given.1 ∙ c.before.before.before.before.before.field_at.ensures) in
-    λ q. after-ninth c.before.before.before.before.before.before.before.before.before.args.packet.now c.before.before.before.before.before.before.before.loop.at c.before.before.before.before.before.before.before.loop.count q g.2 (sym g.0 ∙ c.before.if1.false) c.if2.true ∙ c.before.before.before.before.before.before.before.loop.invariant.2 q
+    λ q. after_ninth c.before.before.before.before.before.before.before.before.before.args.packet.now c.before.before.before.before.before.before.before.loop.at c.before.before.before.before.before.before.before.loop.count q g.2 (sym g.0 ∙ c.before.if1.false) c.if2.true ∙ c.before.before.before.before.before.before.before.loop.invariant.2 q
 
 add-count : tie.Need-overflow-add-count invariant-loop decreases-loop
 add-count c = omega arith

@@ -2,7 +2,7 @@
 use mathlib.Core.Path.{◌≡◌, refl, sym, ap, ◌∙◌}
 use native.Mathlib.Omega.{arith}
 use Rattle.packet.specs.Code.{value_at, form_of}
-use Rattle.packet.proofs.Forms.{is_nothing, is_field, packet_long, packet-nothing, packet-tag, packet_after}
+use Rattle.packet.proofs.Forms.{is_nothing, is_field, packet_long, packet_nothing, packet_tag, packet_after}
 use borrow.Author.Rules.{rules}
 use Rattle.packet.proofs.read_packet.Statement.{statement}
 use Rattle.packet.proofs.read_packet.Tie as tie
@@ -20,12 +20,12 @@ enum_told : tie.Need-enum-told
 enum_told c = search rules
 
 returns-2 : tie.Need-returns-2
-returns-2 c = packet-nothing c.before.before.before.before.before.args.packet.now c.before.before.before.if1.false (is_nothing c.before.before.before.before.before.args.packet.now 0 (sym c.enum_told.given.1 ∙ c.before.before.field_at.ensures))
+returns-2 c = packet_nothing c.before.before.before.before.before.args.packet.now c.before.before.before.if1.false (is_nothing c.before.before.before.before.before.args.packet.now 0 (sym c.enum_told.given.1 ∙ c.before.before.field_at.ensures))
 
 returns-3 : tie.Need-returns-3
 returns-3 c =
     let g = is_field c.before.before.before.before.before.before.before.args.packet.now 0 _ _ (sym c.before.before.tag.given.1 ∙ c.before.before.before.before.field_at.ensures) in
-    packet-tag c.before.before.before.before.before.before.before.args.packet.now c.before.before.before.before.before.if1.false g.2 (λ e. c.if2.true (g.0 ∙ e))
+    packet_tag c.before.before.before.before.before.before.before.args.packet.now c.before.before.before.before.before.if1.false g.2 (λ e. c.if2.true (g.0 ∙ e))
 
 after-rule-requires : tie.Need-after-rule-requires
 after-rule-requires c κs =

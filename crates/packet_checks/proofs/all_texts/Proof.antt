@@ -7,7 +7,7 @@ use Rattle.packet.specs.Code.{Stand, values_at}
 use borrow.Author.Tests.{not-true, not-false}
 use Rattle.packet.proofs.Parts.{next_field, part_value}
 use Rattle.running.specs.Run.{all_readable}
-use Rattle.packet_checks.proofs.Ways.{texts-next, texts-stop, texts_end}
+use Rattle.packet_checks.proofs.Ways.{texts_next, texts_stop, texts_end}
 use Rattle.packet_checks.proofs.all_texts.Statement.{statement}
 use Rattle.packet_checks.proofs.all_texts.Tie as tie
 
@@ -36,7 +36,7 @@ is-text-requires : tie.Need-is-text-requires invariant-loop decreases-loop
 is-text-requires c κs = search rules
 
 returns : tie.Need-returns invariant-loop decreases-loop
-returns c = texts-stop c.before.before.before.before.before.before.before.args.packet.now c.before.before.before.before.before.loop.at c.before.before.before.before.before.before.before.args.count c.before.before.before.before.before.loop.i c.before.before.before.before.loop-test.true c.before.before.before.before.before.loop.invariant.1 (rw (c.before.before.before.part_at.ensures, part_value) at c.before.is_text.ensures) (not-true _ c.if1.true) ∙ c.before.before.before.before.before.loop.invariant.2
+returns c = texts_stop c.before.before.before.before.before.before.before.args.packet.now c.before.before.before.before.before.loop.at c.before.before.before.before.before.before.before.args.count c.before.before.before.before.before.loop.i c.before.before.before.before.loop-test.true c.before.before.before.before.before.loop.invariant.1 (rw (c.before.before.before.part_at.ensures, part_value) at c.before.is_text.ensures) (not-true _ c.if1.true) ∙ c.before.before.before.before.before.loop.invariant.2
 
 add-i : tie.Need-overflow-add-i invariant-loop decreases-loop
 add-i c = omega arith
@@ -46,7 +46,7 @@ loop-less c = omega arith
 
 loop-again : tie.Need-loop-preserved invariant-loop decreases-loop
 loop-again c = let n = next_field c.before.before.before.before.before.before.before.args.packet.now c.before.before.before.before.before.loop.at c.before.before.before.before.before.before.before.args.count c.before.before.before.before.before.loop.i c.before.before.before.before.loop-test.true c.before.before.before.before.before.loop.invariant.1 in
-    (omega arith, rw c.before.before.before.part_at.ensures n.stand, rw c.before.before.before.part_at.ensures (texts-next c.before.before.before.before.before.before.before.args.packet.now c.before.before.before.before.before.loop.at c.before.before.before.before.before.before.before.args.count c.before.before.before.before.before.loop.i c.before.before.before.before.loop-test.true c.before.before.before.before.before.loop.invariant.1 (rw (c.before.before.before.part_at.ensures, part_value) at c.before.is_text.ensures) (not-false _ c.if1.false) ∙ c.before.before.before.before.before.loop.invariant.2))
+    (omega arith, rw c.before.before.before.part_at.ensures n.stand, rw c.before.before.before.part_at.ensures (texts_next c.before.before.before.before.before.before.before.args.packet.now c.before.before.before.before.before.loop.at c.before.before.before.before.before.before.before.args.count c.before.before.before.before.before.loop.i c.before.before.before.before.loop-test.true c.before.before.before.before.before.loop.invariant.1 (rw (c.before.before.before.part_at.ensures, part_value) at c.before.is_text.ensures) (not-false _ c.if1.false) ∙ c.before.before.before.before.before.loop.invariant.2))
 
 returns-2 : tie.Need-returns-2 invariant-loop decreases-loop
 returns-2 c = texts_end c.before.before.before.args.packet.now c.before.loop.at c.before.before.before.args.count c.before.loop.i c.loop-test.false ∙ c.before.loop.invariant.2

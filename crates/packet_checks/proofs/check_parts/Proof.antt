@@ -5,7 +5,7 @@ use borrow.Author.Tests.{not-true, not-false}
 use Rattle.packet.specs.Code.{end_at, values_at, label_at}
 use Rattle.packet.proofs.Parts.{part_value}
 use Rattle.running.specs.Run.{label_texts}
-use Rattle.packet_checks.proofs.Ways.{rule_none, text-none, label_none, all-checked}
+use Rattle.packet_checks.proofs.Ways.{rule_none, text_none, label_none, all_checked}
 use borrow.Author.Rules.{rules}
 use Rattle.packet_checks.proofs.check_parts.Statement.{statement}
 use Rattle.packet_checks.proofs.check_parts.Tie as tie
@@ -37,7 +37,7 @@ all-texts-requires c κs = rw c.before.before.before.part_at.ensures c.before.be
 returns-2 : tie.Need-returns-2
 returns-2 c =
     let l = c.before.before.before.before.before.before.before.args.packet.now in
-    text-none l (values_at l (end_at l 0) c.before.before.before.before.before.before.before.args.arguments) (label_texts (label_at l c.before.before.before.before.before.before.before.args.size))
+    text_none l (values_at l (end_at l 0) c.before.before.before.before.before.before.before.args.arguments) (label_texts (label_at l c.before.before.before.before.before.before.before.args.size))
     (rw (c.before.before.before.before.before.part_at.ensures, part_value l 0) at c.before.before.before.rule_size_lem.ensures) c.before.before.if1.false (rw c.before.before.before.before.before.part_at.ensures at c.before.all_texts.ensures) (not-true _ c.if2.true)
 
 label-text-requires : tie.Need-label-text-requires
@@ -53,7 +53,7 @@ returns-3 c =
 returns-4 : tie.Need-returns-4
 returns-4 c =
     let l = c.before.before.before.before.before.before.before.before.before.args.packet.now in
-    all-checked l (values_at l (end_at l 0) c.before.before.before.before.before.before.before.before.before.args.arguments) (label_texts (label_at l c.before.before.before.before.before.before.before.before.before.args.size))
+    all_checked l (values_at l (end_at l 0) c.before.before.before.before.before.before.before.before.before.args.arguments) (label_texts (label_at l c.before.before.before.before.before.before.before.before.before.args.size))
     (rw (c.before.before.before.before.before.before.before.part_at.ensures, part_value l 0) at c.before.before.before.before.before.rule_size_lem.ensures) c.before.before.before.before.if1.false (rw c.before.before.before.before.before.before.before.part_at.ensures at c.before.before.before.all_texts.ensures) (not-false _ c.before.before.if2.false)
     c.before.label_text.ensures (not-false _ c.if3.false)
 

@@ -4,8 +4,8 @@ use mathlib.Core.Path.{refl, ◌∙◌}
 use native.Mathlib.Omega.{arith}
 use borrow.Author.Rules.{rules}
 use lib.ListN.{length}
-use Rattle.parser.proofs.Phrases.{Carried, carried_start, carried-asks, carried-nothing, carried-after, carried-more, carried-done, carried-broken, told_phrase, told_nothing, tell, tell_nothing}
-use Rattle.parser.proofs.Groups.{none_here, too_deep, group_told, names_less, body_asks, body-room, body-told}
+use Rattle.parser.proofs.Phrases.{Carried, carried_start, carried_asks, carried_nothing, carried_after, carried_more, carried_done, carried_broken, told_phrase, told_nothing, tell, tell_nothing}
+use Rattle.parser.proofs.Groups.{none_here, too_deep, group_told, names_less, body_asks, body_room, body_told}
 use Prim.Native.Nat.{ℕ, ◌<◌}
 use borrow.Fn.Kinds.{In}
 use borrow.Fn.PlainCycle.{Measures, is, falls, and}
@@ -78,7 +78,7 @@ expression-operand-requires : (t : ℕ) → expression-lts.Need-operand-requires
   after_reads.Asked,
   after_reads.Learnt,
 ) (expression_at t) expression.Post expression-Inv-loop expression-μ-loop
-expression-operand-requires t c κs = (omega (arith, c.before.before.before.before.before.before.before.requires.0, c.before.before.loop.invariant.later, c.before.before.loop.invariant.goes.within), carried-asks _ _ _ _ _ _ _ c.before.before.before.before.before.before.before.requires.1 _ _ _ c.before.before.loop.invariant)
+expression-operand-requires t c κs = (omega (arith, c.before.before.before.before.before.before.before.requires.0, c.before.before.loop.invariant.later, c.before.before.loop.invariant.goes.within), carried_asks _ _ _ _ _ _ _ c.before.before.before.before.before.before.before.requires.1 _ _ _ c.before.before.loop.invariant)
 
 expression-enum-known-next : (t : ℕ) → expression-lts.Need-enum-known-next (
   begin-reads.Asked,
@@ -128,7 +128,7 @@ expression-returns : (t : ℕ) → expression-lts.Need-returns (
   after_reads.Asked,
   after_reads.Learnt,
 ) (expression_at t) expression.Post expression-Inv-loop expression-μ-loop
-expression-returns t c = (tell_nothing _ _ _ _ _ (carried-nothing _ _ _ _ _ _ _ c.before.before.before.before.before.before.before.before.before.before.before.before.before.before.requires.1 _ _ _ c.before.before.before.before.before.before.before.before.before.loop.invariant (told_nothing _ _ _ _ _ _ c.before.before.before.before.before.before.operand.ensures.0 c.enum_told.given.1)), c.before.before.before.before.before.before.operand.ensures.1 ∙ c.before.before.before.before.before.before.before.before.before.loop.invariant.same)
+expression-returns t c = (tell_nothing _ _ _ _ _ (carried_nothing _ _ _ _ _ _ _ c.before.before.before.before.before.before.before.before.before.before.before.before.before.before.requires.1 _ _ _ c.before.before.before.before.before.before.before.before.before.loop.invariant (told_nothing _ _ _ _ _ _ c.before.before.before.before.before.before.operand.ensures.0 c.enum_told.given.1)), c.before.before.before.before.before.before.operand.ensures.1 ∙ c.before.before.before.before.before.before.before.before.before.loop.invariant.same)
 
 expression-after-requires : (t : ℕ) → expression-lts.Need-after-requires (
   begin-reads.Asked,
@@ -138,7 +138,7 @@ expression-after-requires : (t : ℕ) → expression-lts.Need-after-requires (
   after_reads.Asked,
   after_reads.Learnt,
 ) (expression_at t) expression.Post expression-Inv-loop expression-μ-loop
-expression-after-requires t c κs = carried-after _ _ _ _ _ _ _ c.before.before.before.before.before.before.before.before.before.before.before.before.before.before.before.before.requires.1 _ _ _ c.before.before.before.before.before.before.before.before.before.before.before.loop.invariant _ _ _ (told_phrase _ _ _ _ _ _ c.before.before.before.before.before.before.before.before.operand.ensures.0 c.before.before.next.given.1) c.before.before.before.before.before.before.before.before.operand.auto.1.1.1.1.1.0
+expression-after-requires t c κs = carried_after _ _ _ _ _ _ _ c.before.before.before.before.before.before.before.before.before.before.before.before.before.before.before.before.requires.1 _ _ _ c.before.before.before.before.before.before.before.before.before.before.before.loop.invariant _ _ _ (told_phrase _ _ _ _ _ _ c.before.before.before.before.before.before.before.before.operand.ensures.0 c.before.before.next.given.1) c.before.before.before.before.before.before.before.before.operand.auto.1.1.1.1.1.0
 
 expression-enum-known-more : (t : ℕ) → expression-lts.Need-enum-known-more (
   begin-reads.Asked,
@@ -162,7 +162,7 @@ expression-loop-less t c =
     let o = told_phrase _ _ _ _ _ _ c.before.before.before.before.before.before.before.before.before.before.before.before.before.before.operand.ensures.0 c.before.before.before.before.before.before.before.before.next.given.1 in
     let v = c.before.before.before.before.before.before.before.before.before.before.before.before.before.before.before.before.before.loop.invariant in
     let s = c.before.before.before.before.before.after.ensures c.before.before.before.before.before.before.before.before.before.before.before.before.before.before.before.before.before.before.before.before.before.before.args.depth _ v.goes.p v.goes.f o.e _ in
-    let g = carried-more _ _ _ _ _ _ _ c.before.before.before.before.before.before.before.before.before.before.before.before.before.before.before.before.before.before.before.before.before.before.requires.1 _ _ _ v _ _ _ o _ _ s c.before.more.given.1 _ c.before.before.before.before.before.before.before.before.before.before.before.before.before.before.operand.ensures.1 c.before.before.before.before.before.before.before.before.before.before.before.before.before.before.operand.auto.1.1.1.0 (c.before.before.before.before.before.after.auto.1.1.0 ∙ c.before.before.before.before.before.before.before.before.before.before.before.before.before.before.operand.auto.1.1.1.1.1.0) in
+    let g = carried_more _ _ _ _ _ _ _ c.before.before.before.before.before.before.before.before.before.before.before.before.before.before.before.before.before.before.before.before.before.before.requires.1 _ _ _ v _ _ _ o _ _ s c.before.more.given.1 _ c.before.before.before.before.before.before.before.before.before.before.before.before.before.before.operand.ensures.1 c.before.before.before.before.before.before.before.before.before.before.before.before.before.before.operand.auto.1.1.1.0 (c.before.before.before.before.before.after.auto.1.1.0 ∙ c.before.before.before.before.before.before.before.before.before.before.before.before.before.before.operand.auto.1.1.1.1.1.0) in
     omega (arith, g.1, g.2)
 
 expression-loop-again : (t : ℕ) → expression-lts.Need-loop-preserved (
@@ -177,7 +177,7 @@ expression-loop-again t c =
     let o = told_phrase _ _ _ _ _ _ c.before.before.before.before.before.before.before.before.before.before.before.before.before.before.operand.ensures.0 c.before.before.before.before.before.before.before.before.next.given.1 in
     let v = c.before.before.before.before.before.before.before.before.before.before.before.before.before.before.before.before.before.loop.invariant in
     let s = c.before.before.before.before.before.after.ensures c.before.before.before.before.before.before.before.before.before.before.before.before.before.before.before.before.before.before.before.before.before.before.args.depth _ v.goes.p v.goes.f o.e _ in
-    (carried-more _ _ _ _ _ _ _ c.before.before.before.before.before.before.before.before.before.before.before.before.before.before.before.before.before.before.before.before.before.before.requires.1 _ _ _ v _ _ _ o _ _ s c.before.more.given.1 _ c.before.before.before.before.before.before.before.before.before.before.before.before.before.before.operand.ensures.1 c.before.before.before.before.before.before.before.before.before.before.before.before.before.before.operand.auto.1.1.1.0 (c.before.before.before.before.before.after.auto.1.1.0 ∙ c.before.before.before.before.before.before.before.before.before.before.before.before.before.before.operand.auto.1.1.1.1.1.0)).0
+    (carried_more _ _ _ _ _ _ _ c.before.before.before.before.before.before.before.before.before.before.before.before.before.before.before.before.before.before.before.before.before.before.requires.1 _ _ _ v _ _ _ o _ _ s c.before.more.given.1 _ c.before.before.before.before.before.before.before.before.before.before.before.before.before.before.operand.ensures.1 c.before.before.before.before.before.before.before.before.before.before.before.before.before.before.operand.auto.1.1.1.0 (c.before.before.before.before.before.after.auto.1.1.0 ∙ c.before.before.before.before.before.before.before.before.before.before.before.before.before.before.operand.auto.1.1.1.1.1.0)).0
 
 expression-enum-known-done : (t : ℕ) → expression-lts.Need-enum-known-done (
   begin-reads.Asked,
@@ -221,7 +221,7 @@ expression-returns-2 t c =
     let o = told_phrase _ _ _ _ _ _ c.before.before.before.before.before.before.before.before.before.before.before.before.before.before.operand.ensures.0 c.before.before.before.before.before.before.before.before.next.given.1 in
     let v = c.before.before.before.before.before.before.before.before.before.before.before.before.before.before.before.before.before.loop.invariant in
     let s = c.before.before.before.before.before.after.ensures c.before.before.before.before.before.before.before.before.before.before.before.before.before.before.before.before.before.before.before.before.before.before.args.depth _ v.goes.p v.goes.f o.e _ in
-    (tell (carried-done _ _ _ _ _ _ _ c.before.before.before.before.before.before.before.before.before.before.before.before.before.before.before.before.before.before.before.before.before.before.requires.1 _ _ _ v _ _ _ o _ _ s c.before.done.given.1 (c.before.before.before.before.before.after.auto.1.1.0 ∙ c.before.before.before.before.before.before.before.before.before.before.before.before.before.before.operand.auto.1.1.1.1.1.0)), c.before.before.before.before.before.before.before.before.before.before.before.before.before.before.operand.ensures.1 ∙ v.same)
+    (tell (carried_done _ _ _ _ _ _ _ c.before.before.before.before.before.before.before.before.before.before.before.before.before.before.before.before.before.before.before.before.before.before.requires.1 _ _ _ v _ _ _ o _ _ s c.before.done.given.1 (c.before.before.before.before.before.after.auto.1.1.0 ∙ c.before.before.before.before.before.before.before.before.before.before.before.before.before.before.operand.auto.1.1.1.1.1.0)), c.before.before.before.before.before.before.before.before.before.before.before.before.before.before.operand.ensures.1 ∙ v.same)
 
 expression-enum-told-2 : (t : ℕ) → expression-lts.Need-enum-told-2 (
   begin-reads.Asked,
@@ -265,7 +265,7 @@ expression-returns-3 t c =
     let o = told_phrase _ _ _ _ _ _ c.before.before.before.before.before.before.before.before.before.before.before.before.before.operand.ensures.0 c.before.before.before.before.before.before.before.next.given.1 in
     let v = c.before.before.before.before.before.before.before.before.before.before.before.before.before.before.before.before.loop.invariant in
     let s = c.before.before.before.before.after.ensures c.before.before.before.before.before.before.before.before.before.before.before.before.before.before.before.before.before.before.before.before.before.args.depth _ v.goes.p v.goes.f o.e _ in
-    (tell_nothing _ _ _ _ _ (carried-broken _ _ _ _ _ _ _ c.before.before.before.before.before.before.before.before.before.before.before.before.before.before.before.before.before.before.before.before.before.requires.1 _ _ _ v _ _ _ o _ _ s c.enum-told2.given.1), c.before.before.before.before.before.before.before.before.before.before.before.before.before.operand.ensures.1 ∙ v.same)
+    (tell_nothing _ _ _ _ _ (carried_broken _ _ _ _ _ _ _ c.before.before.before.before.before.before.before.before.before.before.before.before.before.before.before.before.before.before.before.before.before.requires.1 _ _ _ v _ _ _ o _ _ s c.enum-told2.given.1), c.before.before.before.before.before.before.before.before.before.before.before.before.before.operand.ensures.1 ∙ v.same)
 
 operand-returns : (t : ℕ) → operand-lts.Need-returns (
   expression_below t,
@@ -531,7 +531,7 @@ operand-close-abstractions-requires : (t : ℕ) → operand-lts.Need-close-abstr
   atom-reads.Asked,
   atom-reads.Learnt,
 ) (operand_at t) operand.Post
-operand-close-abstractions-requires t c κs = body-room _ _ c.before.before.before.before.before.before.before.before.before.before.before.before.before.before.before.before.before.before.before.before.args.depth _ _ _ _ c.before.before.before.before.before.before.before.before.before.before.before.before.before.before.before.before.before.before.before.before.requires.1 _ _ c.before.before.before.before.before.before.before.before.before.before.before.open-abstractions.auto.1.1.0 c.before.before.before.before.before.before.before.before.before.before.before.open-abstractions.ensures.0 _ c.before.before.before.before.before.expression2.auto.1.1.1.1.1.0 _ c.before.before.before.before.before.expression2.ensures.0
+operand-close-abstractions-requires t c κs = body_room _ _ c.before.before.before.before.before.before.before.before.before.before.before.before.before.before.before.before.before.before.before.before.args.depth _ _ _ _ c.before.before.before.before.before.before.before.before.before.before.before.before.before.before.before.before.before.before.before.before.requires.1 _ _ c.before.before.before.before.before.before.before.before.before.before.before.open-abstractions.auto.1.1.0 c.before.before.before.before.before.before.before.before.before.before.before.open-abstractions.ensures.0 _ c.before.before.before.before.before.expression2.auto.1.1.1.1.1.0 _ c.before.before.before.before.before.expression2.ensures.0
 
 operand-same-length-4 : (t : ℕ) → operand-lts.Need-same-length-4 (
   expression_below t,
@@ -575,7 +575,7 @@ operand-returns-5 : (t : ℕ) → operand-lts.Need-returns-5 (
 ) (operand_at t) operand.Post
 operand-returns-5 t c =
     let v = c.before.before.before.before.before.before.before.before.before.before.before.before.before.before.open-abstractions.ensures.0 in
-    (body-told _ _ c.before.before.before.before.before.before.before.before.before.before.before.before.before.before.before.before.before.before.before.before.before.before.before.args.depth _ _ _ _ c.before.before.before.before.before.before.before.before.before.before.before.before.before.before.before.before.before.before.before.before.before.before.before.requires.1 _ _ c.before.before.before.before.before.before.before.before.before.before.before.before.before.before.open-abstractions.auto.1.1.0 v _ c.before.before.before.before.before.before.before.before.expression2.auto.1.1.1.1.1.0 _ _ _ c.before.before.before.before.before.before.before.before.expression2.ensures.0 c.before.before.close-abstractions.ensures, names_less _ _ _ _ v.fits c.before.before.before.before.before.before.before.before.expression2.ensures.1 ∙ v.kept)
+    (body_told _ _ c.before.before.before.before.before.before.before.before.before.before.before.before.before.before.before.before.before.before.before.before.before.before.before.args.depth _ _ _ _ c.before.before.before.before.before.before.before.before.before.before.before.before.before.before.before.before.before.before.before.before.before.before.before.requires.1 _ _ c.before.before.before.before.before.before.before.before.before.before.before.before.before.before.open-abstractions.auto.1.1.0 v _ c.before.before.before.before.before.before.before.before.expression2.auto.1.1.1.1.1.0 _ _ _ c.before.before.before.before.before.before.before.before.expression2.ensures.0 c.before.before.close-abstractions.ensures, names_less _ _ _ _ v.fits c.before.before.before.before.before.before.before.before.expression2.ensures.1 ∙ v.kept)
 
 operand-atom-requires : (t : ℕ) → operand-lts.Need-atom-requires (
   expression_below t,

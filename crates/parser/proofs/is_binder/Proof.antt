@@ -1,6 +1,6 @@
 -- `parser::is_binder` meets its contract: each way to fail. Assumes nothing.
 use mathlib.Core.Path.{refl}
-use Rattle.parser.proofs.Groups.{no_binder_cut, no_binder_sign, no-binder-name, binder-stop}
+use Rattle.parser.proofs.Groups.{no_binder_cut, no_binder_sign, no_binder_name, binder_stop}
 use borrow.Author.Rules.{rules}
 use Rattle.parser.proofs.is_binder.Statement.{statement}
 use Rattle.parser.proofs.is_binder.Tie as tie
@@ -33,7 +33,7 @@ is-name-requires : tie.Need-is-name-requires
 is-name-requires c κs = search rules
 
 returns-3 : tie.Need-returns-3
-returns-3 c = no-binder-name _ _ c.before.before.before.before.before.if1.false c.before.is_name.result c.before.is_name.ensures c.if3.true
+returns-3 c = no_binder_name _ _ c.before.before.before.before.before.if1.false c.before.is_name.result c.before.is_name.ensures c.if3.true
 
 add-result : tie.Need-overflow-add-result
 add-result c = search rules
@@ -45,7 +45,7 @@ shared-slice-read-result : tie.Need-shared-slice-read-result
 shared-slice-read-result c = search rules
 
 returns-4 : tie.Need-returns-4
-returns-4 c = binder-stop c.before.before.before.before.before.before.before.before.args.words.now c.before.before.before.before.before.before.before.before.args.at c.before.before.before.before.before.before.if1.false c.before.before.is_name.result c.before.before.is_name.ensures c.before.before.before.before.if2.false c.before.if3.false _ refl
+returns-4 c = binder_stop c.before.before.before.before.before.before.before.before.args.words.now c.before.before.before.before.before.before.before.before.args.at c.before.before.before.before.before.before.if1.false c.before.before.is_name.result c.before.before.is_name.ensures c.before.before.before.before.if2.false c.before.if3.false _ refl
 
 pub is_binder_spec : {M : Type 1} → statement M
 is_binder_spec =

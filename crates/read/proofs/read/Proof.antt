@@ -1,5 +1,5 @@
 -- `read::read` meets its contract: 1, and the table's length. Assumes nothing.
-use Rattle.read.proofs.Ways.{long_table, over-used, long-stack}
+use Rattle.read.proofs.Ways.{long_table, over_used, long_stack}
 use borrow.Author.Rules.{rules}
 use Rattle.read.proofs.read.Statement.{statement}
 use Rattle.read.proofs.read.Tie as tie
@@ -20,7 +20,7 @@ returns-2 : tie.Need-returns-2
 returns-2 c = c.before.before.before.before.read-64.ensures
 
 returns-3 : tie.Need-returns-3
-returns-3 c = over-used _ _ _ _ c.before.before.if1.false c.if3.true
+returns-3 c = over_used _ _ _ _ c.before.before.if1.false c.if3.true
 
 read-1024-requires : tie.Need-read-1024-requires
 read-1024-requires c κs = search rules
@@ -35,7 +35,7 @@ returns-4 : tie.Need-returns-4
 returns-4 c = c.before.before.before.before.read-1024.ensures
 
 returns-5 : tie.Need-returns-5
-returns-5 c = long-stack _ _ _ _ c.before.before.before.before.if1.false c.if5.true
+returns-5 c = long_stack _ _ _ _ c.before.before.before.before.if1.false c.if5.true
 
 read-8192-requires : tie.Need-read-8192-requires
 read-8192-requires c κs = search rules

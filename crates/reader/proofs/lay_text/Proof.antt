@@ -2,7 +2,7 @@
 use mathlib.Core.Path.{◌∙◌}
 use native.Mathlib.Omega.{arith}
 use borrow.Author.Rules.{rules}
-use Rattle.reader.proofs.Laying.{LaidTo, laid_none, takes-digit, digit-frame, none-laid, node-small, laid_next, one_frame, all_laid}
+use Rattle.reader.proofs.Laying.{LaidTo, laid_none, takes_digit, digit_frame, none_laid, node_small, laid_next, one_frame, all_laid}
 use Rattle.reader.proofs.lay_text.Statement.{statement}
 use Rattle.reader.proofs.lay_text.Tie as tie
 
@@ -24,7 +24,7 @@ shared-slice-read-c : tie.Need-shared-slice-read-c invariant-loop decreases-loop
 shared-slice-read-c c = omega arith
 
 lay-digit-requires : tie.Need-lay-digit-requires invariant-loop decreases-loop
-lay-digit-requires c κs = (c.before.before.before.before.before.loop.invariant.ready, takes-digit c.before.before.before.before.before.before.before.before.before.before.requires.0 c.before.before.before.before.before.before.before.before.before.before.requires.1 c.before.before.before.before.before.loop.invariant (omega arith))
+lay-digit-requires c κs = (c.before.before.before.before.before.loop.invariant.ready, takes_digit c.before.before.before.before.before.before.before.before.before.before.requires.0 c.before.before.before.before.before.before.before.before.before.before.requires.1 c.before.before.before.before.before.loop.invariant (omega arith))
 
 enum-known-got : tie.Need-enum-known-got invariant-loop decreases-loop
 enum-known-got c = search rules
@@ -42,31 +42,31 @@ same-length-3 : tie.Need-same-length-3 invariant-loop decreases-loop
 same-length-3 c = c.before.before.before.before.before.before.lay-digit.auto.1.1.1.1.1.0 ∙ c.before.before.before.before.before.before.before.before.before.before.before.before.loop.invariant.same_index
 
 returns : tie.Need-returns invariant-loop decreases-loop
-returns c = none-laid c.before.before.before.before.before.before.before.before.before.before.before.before.before.before.before.before.before.requires.0 c.before.before.before.before.before.before.before.before.before.before.before.before.before.before.before.before.before.requires.1 c.before.before.before.before.before.before.before.before.before.before.before.before.loop.invariant (omega arith) _ _ _ c.before.before.before.before.before.before.lay-digit.ensures.0 c.before.before.before.before.before.before.lay-digit.ensures.1 c.enum_told.given.1
+returns c = none_laid c.before.before.before.before.before.before.before.before.before.before.before.before.before.before.before.before.before.requires.0 c.before.before.before.before.before.before.before.before.before.before.before.before.before.before.before.before.before.requires.1 c.before.before.before.before.before.before.before.before.before.before.before.before.loop.invariant (omega arith) _ _ _ c.before.before.before.before.before.before.lay-digit.ensures.0 c.before.before.before.before.before.before.lay-digit.ensures.1 c.enum_told.given.1
 
 cast-at : tie.Need-overflow-cast-at invariant-loop decreases-loop
-cast-at c = omega (arith, (takes-digit c.before.before.before.before.before.before.before.before.before.before.before.before.before.before.before.before.before.before.requires.0 c.before.before.before.before.before.before.before.before.before.before.before.before.before.before.before.before.before.before.requires.1 c.before.before.before.before.before.before.before.before.before.before.before.before.before.loop.invariant (omega arith)).to_fork)
+cast-at c = omega (arith, (takes_digit c.before.before.before.before.before.before.before.before.before.before.before.before.before.before.before.before.before.before.requires.0 c.before.before.before.before.before.before.before.before.before.before.before.before.before.before.before.before.before.before.requires.1 c.before.before.before.before.before.before.before.before.before.before.before.before.before.loop.invariant (omega arith)).to_fork)
 
 sub_at : tie.Need-overflow-sub-at invariant-loop decreases-loop
-sub_at c = (takes-digit c.before.before.before.before.before.before.before.before.before.before.before.before.before.before.before.before.before.before.requires.0 c.before.before.before.before.before.before.before.before.before.before.before.before.before.before.before.before.before.before.requires.1 c.before.before.before.before.before.before.before.before.before.before.before.before.before.loop.invariant (omega arith)).from_leaf
+sub_at c = (takes_digit c.before.before.before.before.before.before.before.before.before.before.before.before.before.before.before.before.before.before.requires.0 c.before.before.before.before.before.before.before.before.before.before.before.before.before.before.before.before.before.before.requires.1 c.before.before.before.before.before.before.before.before.before.before.before.before.before.loop.invariant (omega arith)).from_leaf
 
 sub-at-2 : tie.Need-overflow-sub-at-2 invariant-loop decreases-loop
-sub-at-2 c = (takes-digit c.before.before.before.before.before.before.before.before.before.before.before.before.before.before.before.before.before.before.requires.0 c.before.before.before.before.before.before.before.before.before.before.before.before.before.before.before.before.before.before.requires.1 c.before.before.before.before.before.before.before.before.before.before.before.before.before.loop.invariant (omega arith)).branches
+sub-at-2 c = (takes_digit c.before.before.before.before.before.before.before.before.before.before.before.before.before.before.before.before.before.before.requires.0 c.before.before.before.before.before.before.before.before.before.before.before.before.before.before.before.before.before.before.requires.1 c.before.before.before.before.before.before.before.before.before.before.before.before.before.loop.invariant (omega arith)).branches
 
 cast-stack : tie.Need-overflow-cast-stack invariant-loop decreases-loop
-cast-stack c = omega (arith, node-small c.before.before.before.before.before.before.before.before.before.before.before.before.before.before.before.before.before.before.requires.0 c.before.before.before.before.before.before.before.before.before.before.before.before.before.before.before.before.before.before.requires.1 c.before.before.before.before.before.before.before.before.before.before.before.before.before.loop.invariant (omega arith) _ _ _ c.before.before.before.before.before.before.before.lay-digit.ensures.0 c.before.before.before.before.before.before.before.lay-digit.ensures.1 c.before.got.given.1)
+cast-stack c = omega (arith, node_small c.before.before.before.before.before.before.before.before.before.before.before.before.before.before.before.before.before.before.requires.0 c.before.before.before.before.before.before.before.before.before.before.before.before.before.before.before.before.before.before.requires.1 c.before.before.before.before.before.before.before.before.before.before.before.before.before.loop.invariant (omega arith) _ _ _ c.before.before.before.before.before.before.before.lay-digit.ensures.0 c.before.before.before.before.before.before.before.lay-digit.ensures.1 c.before.got.given.1)
 
 mul-stack : tie.Need-overflow-mul-stack invariant-loop decreases-loop
-mul-stack c = omega (arith, digit-frame c.before.before.before.before.before.before.before.before.before.before.before.before.before.before.before.before.before.before.requires.0 c.before.before.before.before.before.before.before.before.before.before.before.before.before.before.before.before.before.before.requires.1 c.before.before.before.before.before.before.before.before.before.before.before.before.before.loop.invariant (omega arith), c.before.before.before.before.before.before.before.before.before.before.before.before.before.loop.invariant.same_stack, c.before.before.before.before.before.before.before.before.before.before.before.before.before.before.before.before.before.before.well-formed)
+mul-stack c = omega (arith, digit_frame c.before.before.before.before.before.before.before.before.before.before.before.before.before.before.before.before.before.before.requires.0 c.before.before.before.before.before.before.before.before.before.before.before.before.before.before.before.before.before.before.requires.1 c.before.before.before.before.before.before.before.before.before.before.before.before.before.loop.invariant (omega arith), c.before.before.before.before.before.before.before.before.before.before.before.before.before.loop.invariant.same_stack, c.before.before.before.before.before.before.before.before.before.before.before.before.before.before.before.before.before.before.well-formed)
 
 mul-stack-2 : tie.Need-overflow-mul-stack-2 invariant-loop decreases-loop
-mul-stack-2 c = omega (arith, digit-frame c.before.before.before.before.before.before.before.before.before.before.before.before.before.before.before.before.before.before.requires.0 c.before.before.before.before.before.before.before.before.before.before.before.before.before.before.before.before.before.before.requires.1 c.before.before.before.before.before.before.before.before.before.before.before.before.before.loop.invariant (omega arith), c.before.before.before.before.before.before.before.before.before.before.before.before.before.loop.invariant.same_stack, c.before.before.before.before.before.before.before.before.before.before.before.before.before.before.before.before.before.before.well-formed)
+mul-stack-2 c = omega (arith, digit_frame c.before.before.before.before.before.before.before.before.before.before.before.before.before.before.before.before.before.before.requires.0 c.before.before.before.before.before.before.before.before.before.before.before.before.before.before.before.before.before.before.requires.1 c.before.before.before.before.before.before.before.before.before.before.before.before.before.loop.invariant (omega arith), c.before.before.before.before.before.before.before.before.before.before.before.before.before.loop.invariant.same_stack, c.before.before.before.before.before.before.before.before.before.before.before.before.before.before.before.before.before.before.well-formed)
 
 slice-write-stack : tie.Need-slice-write-stack invariant-loop decreases-loop
-slice-write-stack c = digit-frame c.before.before.before.before.before.before.before.before.before.before.before.before.before.before.before.before.before.before.requires.0 c.before.before.before.before.before.before.before.before.before.before.before.before.before.before.before.before.before.before.requires.1 c.before.before.before.before.before.before.before.before.before.before.before.before.before.loop.invariant (omega arith)
+slice-write-stack c = digit_frame c.before.before.before.before.before.before.before.before.before.before.before.before.before.before.before.before.before.before.requires.0 c.before.before.before.before.before.before.before.before.before.before.before.before.before.before.before.before.before.before.requires.1 c.before.before.before.before.before.before.before.before.before.before.before.before.before.loop.invariant (omega arith)
 
 add-held : tie.Need-overflow-add-held invariant-loop decreases-loop
-add-held c = omega (arith, digit-frame c.before.before.before.before.before.before.before.before.before.before.before.before.before.before.before.before.before.before.requires.0 c.before.before.before.before.before.before.before.before.before.before.before.before.before.before.before.before.before.before.requires.1 c.before.before.before.before.before.before.before.before.before.before.before.before.before.loop.invariant (omega arith), c.before.before.before.before.before.before.before.before.before.before.before.before.before.loop.invariant.same_stack, c.before.before.before.before.before.before.before.before.before.before.before.before.before.before.before.before.before.before.well-formed)
+add-held c = omega (arith, digit_frame c.before.before.before.before.before.before.before.before.before.before.before.before.before.before.before.before.before.before.requires.0 c.before.before.before.before.before.before.before.before.before.before.before.before.before.before.before.before.before.before.requires.1 c.before.before.before.before.before.before.before.before.before.before.before.before.before.loop.invariant (omega arith), c.before.before.before.before.before.before.before.before.before.before.before.before.before.loop.invariant.same_stack, c.before.before.before.before.before.before.before.before.before.before.before.before.before.before.before.before.before.before.well-formed)
 
 loop-less : tie.Need-loop-smaller invariant-loop decreases-loop
 loop-less c = omega arith

@@ -1,5 +1,5 @@
 -- `reader::read_text` meets its contract: 4, then 9, then the text's nodes. Assumes nothing.
-use Rattle.reader.proofs.ReadWays.{too_long, no_tree, no_frames, lays-text, is-laid}
+use Rattle.reader.proofs.ReadWays.{too_long, no_tree, no_frames, lays_text, is_laid}
 use borrow.Author.Rules.{rules}
 use Rattle.reader.proofs.read_text.Statement.{statement}
 use Rattle.reader.proofs.read_text.Tie as tie
@@ -43,7 +43,7 @@ enum-told-2 c = search rules
 lay-text-requires : tie.Need-lay-text-requires
 lay-text-requires c κs =
     let a = c.before.before.before.before.before.before.before.before.before.before.before.before.before.before.before.before.before.before.args in
-    (c.before.before.before.before.before.before.before.before.before.before.before.before.before.before.before.before.before.before.requires, lays-text a.table.now a.used a.stack.now a.text.now a.slots a.index.now c.before.before.before.before.before.before.before.before.before.before.before.before.before.if1.false _ (rw c.before.before.before.before.before.before.before.before.before.before.most.given.1 at c.before.before.before.before.before.before.before.before.before.before.before.before.scan.ensures) c.before.before.before.before.before.before.before.check-frames.ensures c.before.before.before.enum-told2.given.1)
+    (c.before.before.before.before.before.before.before.before.before.before.before.before.before.before.before.before.before.before.requires, lays_text a.table.now a.used a.stack.now a.text.now a.slots a.index.now c.before.before.before.before.before.before.before.before.before.before.before.before.before.if1.false _ (rw c.before.before.before.before.before.before.before.before.before.before.most.given.1 at c.before.before.before.before.before.before.before.before.before.before.before.before.scan.ensures) c.before.before.before.before.before.before.before.check-frames.ensures c.before.before.before.enum-told2.given.1)
 
 settle-requires : tie.Need-settle-requires
 settle-requires c κs = search rules
@@ -61,7 +61,7 @@ returns-4 : tie.Need-returns-4
 returns-4 c =
     let a = c.before.before.before.before.before.before.before.before.before.before.before.before.before.before.before.before.before.before.before.before.before.before.before.before.before.before.before.before.before.before.before.before.args in
     let n = c.before.before.before.before.before.before.before.before.before.before.before.before.before.lay_text in
-    is-laid a.table.now a.used a.stack.now a.text.now a.slots _ c.before.before.before.before.before.before.before.before.before.before.before.before.before.before.before.before.before.before.before.before.before.before.before.before.before.before.before.if1.false _ (rw c.before.before.before.before.before.before.before.before.before.before.before.before.before.before.before.before.before.before.before.before.before.before.before.before.most.given.1 at c.before.before.before.before.before.before.before.before.before.before.before.before.before.before.before.before.before.before.before.before.before.before.before.before.before.before.scan.ensures) c.before.before.before.before.before.before.before.before.before.before.before.before.before.before.before.before.before.before.before.before.before.check-frames.ensures c.before.before.before.before.before.before.before.before.before.before.before.before.before.before.before.before.before.enum-told2.given.1 n.result n.new.0 _ n.ensures.0 n.ensures.1 n.auto.1.1.0 c.before.before.before.before.settle.ensures
+    is_laid a.table.now a.used a.stack.now a.text.now a.slots _ c.before.before.before.before.before.before.before.before.before.before.before.before.before.before.before.before.before.before.before.before.before.before.before.before.before.before.before.if1.false _ (rw c.before.before.before.before.before.before.before.before.before.before.before.before.before.before.before.before.before.before.before.before.before.before.before.before.most.given.1 at c.before.before.before.before.before.before.before.before.before.before.before.before.before.before.before.before.before.before.before.before.before.before.before.before.before.before.scan.ensures) c.before.before.before.before.before.before.before.before.before.before.before.before.before.before.before.before.before.before.before.before.before.check-frames.ensures c.before.before.before.before.before.before.before.before.before.before.before.before.before.before.before.before.before.enum-told2.given.1 n.result n.new.0 _ n.ensures.0 n.ensures.1 n.auto.1.1.0 c.before.before.before.before.settle.ensures
 
 pub read_text_spec : {M : Type 1} → statement M
 read_text_spec =

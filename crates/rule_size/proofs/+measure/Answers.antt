@@ -1,56 +1,104 @@
-use Rattle.std.proofs.Common.{rules, ◌≡◌, ℕ, ◌-◌, ◌<◌, ◌≤◌, length, get_or, drop, ◌+◌, ◌*◌, ◌/◌, ◌%◌, Bool, true, false, nat_eq, nat_lt, List, [], ◌∷◌, ◌++◌, slice_set, bit_and, bit_or, Fits, w8, w32, w64, Bor, MutBor}
-use Rattle.calculus.specs.Bytes.{parse, rule}
-use Rattle.rule_size.specs.Weight.{leaf_weight, measured, size_of}
+-- `rule_size::measure` meets its contract, by the term's first byte. The measure is what is left of the bytes. Assumes nothing.
+use Prim.Native.Nat.{◌+◌, ◌-◌}
+use mathlib.Core.Path.{◌≡◌, ◌∙◌}
+use native.Mathlib.Omega.{arith}
+use Rattle.rule_size.proofs.Weights.{leaf_weight_most, found, found_less, at_end, too_deep, no_body, is_abs, no_function, no_argument, is_app}
 use Rattle.rule_size.proofs.+measure.Goals as goal
 
--- src/lib.rt:68:9
 pub returns-then-bytes-at : goal.returns-then-bytes-at
-returns-then-bytes-at t c = ?
+returns-then-bytes-at t c = λ n h. c.nothing.ensures ∙ at_end n _ _ _ c.if-bytes-at.true
 
--- src/lib.rt:72:13
+pub bounds-bytes-at : goal.bounds-bytes-at
+bounds-bytes-at t c = omega arith
+
+pub overflow_add-at : goal.overflow_add-at
+overflow_add-at t c = omega arith
+
 pub measure-f-requires : goal.measure-f-requires
-measure-f-requires t c = ?
+measure-f-requires t c = omega arith
 
--- src/lib.rt:75:13
 pub returns-then-mid-eq0 : goal.returns-then-mid-eq0
-returns-then-mid-eq0 t c = ?
+returns-then-mid-eq0 t c = λ n h.
+    let c₁ = c in
+    c.nothing-then-mid-eq0.ensures ∙ no_function n _ _ _ c₁.if-bytes-at.false h _ c₁.if-b-eq1.true c.measure-f.ensures c.if-mid-eq0.true
 
--- src/lib.rt:77:13
 pub measure-a-requires : goal.measure-a-requires
-measure-a-requires t c = ?
+measure-a-requires t c =
+    let c₁ = c in
+    let f = found _ _ _ _ c₁.requires.1 c.measure-f.ensures c.if-mid-eq0.false in
+    omega (arith, f.after, f.within, c₁.requires)
 
--- src/lib.rt:79:13
 pub returns-then-a-eq0 : goal.returns-then-a-eq0
-returns-then-a-eq0 t c = ?
+returns-then-a-eq0 t c = λ n h.
+    let c₁ = c in
+    let c₂ = c₁ in
+    let c₃ = c₂ in
+    let f = found _ _ _ _ c₃.requires.1 c₁.measure-f.ensures c₁.if-mid-eq0.false in
+    c.nothing-then-a-eq0.ensures
+    ∙ no_argument n _ _ _ c₂.if-bytes-at.false h _ c₂.if-b-eq1.true c₁.measure-f.ensures _ c₁.if-mid-eq0.false f.after c₁.measure-a.ensures c.if-a-eq0.true
 
--- src/lib.rt:83:21
 pub overflow_add-result : goal.overflow_add-result
-overflow_add-result t c = ?
+overflow_add-result t c =
+    let c₁ = c in
+    let c₂ = c₁ in
+    let f = found _ _ _ _ c₂.requires.1 c₁.measure-f.ensures c₁.if-mid-eq0.false in
+    let a = found _ _ _ _ c₂.requires.1 c₁.measure-a.ensures c.if-a-eq0.false in
+    omega (arith, f.after, f.most, a.after, a.within, a.most, c₂.requires.0)
 
--- src/lib.rt:81:9
 pub returns-then-b-eq1 : goal.returns-then-b-eq1
-returns-then-b-eq1 t c = ?
+returns-then-b-eq1 t c = λ n h.
+    let c₁ = c in
+    let c₂ = c₁ in
+    let c₃ = c₂ in
+    let f = found _ _ _ _ c₃.requires.1 c₁.measure-f.ensures c₁.if-mid-eq0.false in
+    is_app n _ _ _ c₂.if-bytes-at.false h _ c₂.if-b-eq1.true c₁.measure-f.ensures _ c₁.if-mid-eq0.false f.after c₁.measure-a.ensures c.if-a-eq0.false
 
--- src/lib.rt:88:13
 pub returns-then-depth-ge16 : goal.returns-then-depth-ge16
-returns-then-depth-ge16 t c = ?
+returns-then-depth-ge16 t c = λ n h.
+    let c₁ = c in
+    c.nothing-then-depth-ge16.ensures ∙ too_deep n _ _ _ c₁.if-bytes-at.false h c.if-b-eq2.true c.if-depth-ge16.true
 
--- src/lib.rt:90:13
+pub overflow_add-at-then-b-eq2 : goal.overflow_add-at-then-b-eq2
+overflow_add-at-then-b-eq2 t c = omega arith
+
+pub overflow_add-depth : goal.overflow_add-depth
+overflow_add-depth t c = omega arith
+
 pub measure-t-requires : goal.measure-t-requires
-measure-t-requires t c = ?
+measure-t-requires t c = omega arith
 
--- src/lib.rt:92:13
 pub returns-then-t-eq0 : goal.returns-then-t-eq0
-returns-then-t-eq0 t c = ?
+returns-then-t-eq0 t c = λ n h.
+    let c₁ = c in
+    let c₂ = c₁ in
+    c.nothing-then-t-eq0.ensures ∙ no_body n _ _ _ c₂.if-bytes-at.false h _ c₁.if-b-eq2.true c₁.if-depth-ge16.false c₁.measure-t.ensures c.if-t-eq0.true
 
--- src/lib.rt:96:32
+pub leaf_weight-requires : goal.leaf_weight-requires
+leaf_weight-requires t c = omega arith
+
 pub overflow_mul-result : goal.overflow_mul-result
-overflow_mul-result t c = ?
+overflow_mul-result t c =
+    let c₁ = c in
+    omega (arith, leaf_weight_most c₁.args.depth c₁.requires.1, c.leaf_weight.ensures)
 
--- src/lib.rt:96:21
 pub overflow_sub-result : goal.overflow_sub-result
-overflow_sub-result t c = ?
+overflow_sub-result t c =
+    let c₁ = c in
+    let c₂ = c₁ in
+    let e : c₂.args.depth + 1 - 1 ≡ c₂.args.depth = omega arith in
+    let b = found_less _ (c₂.args.depth + 1) _ _ (omega arith) c₁.measure-t.ensures (omega arith) c.if-t-eq0.false in
+    omega (arith, rw e at b, c.leaf_weight.ensures)
 
--- src/lib.rt:94:9
 pub returns-then-b-eq2 : goal.returns-then-b-eq2
-returns-then-b-eq2 t c = ?
+returns-then-b-eq2 t c = λ n h.
+    let c₁ = c in
+    let c₂ = c₁ in
+    is_abs n _ _ _ c₂.if-bytes-at.false h _ c₁.if-b-eq2.true c₁.if-depth-ge16.false c₁.measure-t.ensures c.leaf_weight.ensures c.if-t-eq0.false
+
+pub measure_atom-requires : goal.measure_atom-requires
+measure_atom-requires t c =
+    let c₁ = c in
+    (c₁.if-bytes-at.false, c₁.requires.1, c.if-b-eq1.false, c.if-b-eq2.false)
+
+pub returns : goal.returns
+returns t c = c.measure_atom.ensures

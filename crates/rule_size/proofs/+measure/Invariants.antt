@@ -1,7 +1,7 @@
-use Rattle.std.proofs.Common.{◌≡◌, ℕ, ◌-◌, ◌<◌, ◌≤◌, length, get_or, drop, ◌+◌, ◌*◌}
-use Rattle.calculus.specs.Bytes.{parse, rule}
-use Rattle.rule_size.specs.Weight.{leaf_weight, measured, size_of}
+-- `rule_size::measure` meets its contract, by the term's first byte. The measure is what is left of the bytes. Assumes nothing.
+use Prim.Native.Nat.{◌-◌}
+use lib.ListN.{length}
 use Rattle.rule_size.proofs.+measure.Given as goal
 
 abbrev pub decreases-measure : goal.decreases-measure
-decreases-measure l = ?
+decreases-measure l = length l.bytes.now - l.at

@@ -1,5 +1,5 @@
 -- `rule_size::rule_size` meets its contract: a whole term that begins with an abstraction counts the nodes of its tree. Assumes nothing.
-use Rattle.rule_size.proofs.Weights.{too_long, empty, other_first, not-whole, is_rule}
+use Rattle.rule_size.proofs.Weights.{too_long, empty, other_first, not_whole, is_rule}
 use Rattle.rule_size.proofs.rule_size.Goals as goal
 
 pub returns-then-n-gt4096 : goal.returns-then-n-gt4096
@@ -18,4 +18,4 @@ returns-then-t-n c =
     is_rule _ _ c₁.if-n-eq0.false c.measure-t.ensures c₂.if-n-gt4096.false c₁.if-bytes-ne2.false c.if-t-n.true
 
 pub returns : goal.returns
-returns c = not-whole _ _ c.if-n-eq0.false c.measure-t.ensures c.if-t-n.false
+returns c = not_whole _ _ c.if-n-eq0.false c.measure-t.ensures c.if-t-n.false

@@ -2,7 +2,7 @@
 use Rattle.index.proofs.Ready.{node_ready}
 use Rattle.frames.specs.Code.{frames_of}
 use Rattle.rules.specs.Code.{ReadyEnd}
-use Rattle.rules.proofs.Steps.{grow_full, grow-got, got_word, resume_ready}
+use Rattle.rules.proofs.Steps.{grow_full, grow_got, got_word, resume_ready}
 use borrow.Author.Rules.{rules}
 use Rattle.rules.proofs.grow.Statement.{statement}
 use Rattle.rules.proofs.grow.Tie as tie
@@ -58,7 +58,7 @@ returns-2 c =
     let z = g.make.new.0 in
     let e = d.resume.ensures z in
     let r = node_ready g.make.ensures.1 x.1 in (
-      grow-got a.state a.uses a.table.now a.stack.now a.a a.b z g.make.ensures.0 x.0.0 x.0.1.0 x.1 _ e,
+      grow_got a.state a.uses a.table.now a.stack.now a.a a.b z g.make.ensures.0 x.0.0 x.0.1.0 x.1 _ e,
       resume_ready d.resume.result z _ (frames_of a.stack.now a.state.held) a.uses x.0.0 e r,
     )
 

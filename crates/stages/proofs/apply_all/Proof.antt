@@ -4,7 +4,7 @@ use mathlib.Core.Path.{◌∙◌}
 use native.Mathlib.Omega.{arith}
 use borrow.Author.Rules.{rules}
 use Rattle.endings.proofs.Ways.{in_table}
-use Rattle.stages.proofs.Ways.{Applying, applies_begin, argument_in, applies_end, applies-next, applies-stop, stop-steps, applies-steps, tells}
+use Rattle.stages.proofs.Ways.{Applying, applies_begin, argument_in, applies_end, applies_next, applies_stop, stop_steps, applies_steps, tells}
 use Rattle.stages.proofs.apply_all.Statement.{statement}
 use Rattle.stages.proofs.apply_all.Tie as tie
 
@@ -53,7 +53,7 @@ stop-applying-requires c κs =
     let i = l.loop.invariant in (
       omega (arith, d.apply-nodes.auto.0, in_table i.ready),
       omega (arith, d.before.before.before.before.sum.ensures, i.within_limit, i.limited),
-      stop-steps i d.before.before.before.before.before.loop-test.true (rw d.before.before.before.before.sum.ensures at d.apply-nodes.ensures.0),
+      stop_steps i d.before.before.before.before.before.loop-test.true (rw d.before.before.before.before.sum.ensures at d.apply-nodes.ensures.0),
     )
 
 same_length : tie.Need-same-length invariant-loop decreases-loop
@@ -67,13 +67,13 @@ same-length-3 c = c.before.before.before.before.before.before.before.before.befo
 
 returns : tie.Need-returns invariant-loop decreases-loop
 returns c =
-    applies-stop c.before.before.before.before.before.before.before.before.before.before.before.before.before.before.before.before.before.before.before.before.before.loop.invariant c.before.before.before.before.before.before.before.before.before.before.before.before.before.before.before.before.before.before.before.before.loop-test.true (rw c.before.before.before.before.before.before.before.before.before.before.before.before.before.before.before.before.before.before.before.sum.ensures at c.before.before.before.before.before.before.before.before.before.before.before.before.before.before.before.apply-nodes.ensures.0) c.before.before.before.before.before.before.before.before.before.before.before.before.before.before.before.before.before.before.before.sum.ensures
+    applies_stop c.before.before.before.before.before.before.before.before.before.before.before.before.before.before.before.before.before.before.before.before.before.loop.invariant c.before.before.before.before.before.before.before.before.before.before.before.before.before.before.before.before.before.before.before.before.loop-test.true (rw c.before.before.before.before.before.before.before.before.before.before.before.before.before.before.before.before.before.before.before.sum.ensures at c.before.before.before.before.before.before.before.before.before.before.before.before.before.before.before.apply-nodes.ensures.0) c.before.before.before.before.before.before.before.before.before.before.before.before.before.before.before.before.before.before.before.sum.ensures
     c.before.before.before.before.before.before.before.enum_told.given.1 (c.before.before.before.before.stop-applying.ensures _ _ _ _ c.before.before.before.before.before.before.before.enum_told.given.1)
 
 plus-requires : tie.Need-plus-requires invariant-loop decreases-loop
 plus-requires c κs =
     let i = c.before.before.before.before.before.before.before.before.before.before.before.before.before.before.before.loop.invariant in
-    omega (arith, applies-steps i c.before.before.before.before.before.before.before.before.before.before.before.before.before.before.loop-test.true (rw c.before.before.before.before.before.before.before.before.before.before.before.before.before.sum.ensures at c.before.before.before.before.before.before.before.before.before.apply-nodes.ensures.0) c.before.answer.given.1, i.limited)
+    omega (arith, applies_steps i c.before.before.before.before.before.before.before.before.before.before.before.before.before.before.loop-test.true (rw c.before.before.before.before.before.before.before.before.before.before.before.before.before.sum.ensures at c.before.before.before.before.before.before.before.before.before.apply-nodes.ensures.0) c.before.answer.given.1, i.limited)
 
 add_done : tie.Need-overflow-add-done invariant-loop decreases-loop
 add_done c = omega (arith, c.before.before.before.before.before.before.before.before.before.before.before.before.before.before.before.before.before.before.before.before.before.requires.3)
@@ -84,7 +84,7 @@ loop-less c = omega arith
 loop-again : tie.Need-loop-preserved invariant-loop decreases-loop
 loop-again c =
     rw c.plus.ensures
-    (applies-next c.before.before.before.before.before.before.before.before.before.before.before.before.before.before.before.before.loop.invariant c.before.before.before.before.before.before.before.before.before.before.before.before.before.before.before.loop-test.true (rw c.before.before.before.before.before.before.before.before.before.before.before.before.before.before.sum.ensures at c.before.before.before.before.before.before.before.before.before.before.apply-nodes.ensures.0)
+    (applies_next c.before.before.before.before.before.before.before.before.before.before.before.before.before.before.before.before.loop.invariant c.before.before.before.before.before.before.before.before.before.before.before.before.before.before.before.loop-test.true (rw c.before.before.before.before.before.before.before.before.before.before.before.before.before.before.sum.ensures at c.before.before.before.before.before.before.before.before.before.before.apply-nodes.ensures.0)
     c.before.before.answer.given.1 c.before.before.before.before.before.before.before.before.before.before.apply-nodes.auto.1.1.0 c.before.before.before.before.before.before.before.before.before.before.apply-nodes.auto.1.1.1.1.1.1.0 c.before.before.before.before.before.before.before.before.before.before.apply-nodes.ensures.1)
 
 write-outcome-requires : tie.Need-write-outcome-requires invariant-loop decreases-loop

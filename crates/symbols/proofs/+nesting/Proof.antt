@@ -3,7 +3,7 @@ use Prim.Native.Nat.{◌+◌}
 use mathlib.Core.List.{◌++◌}
 use Rattle.grammar.specs.Postfix.{postfix}
 use native.Mathlib.Omega.{arith}
-use Rattle.symbols.proofs.Symbols.{has_symbol, right-stands, left-stands, left_less, only-stands, deep-parts, deep-two, deep_body, deep-abs, deep-few, deep-operand, deep-not, deep_none}
+use Rattle.symbols.proofs.Symbols.{has_symbol, right_stands, left_stands, left_less, only_stands, deep_parts, deep_two, deep_body, deep_abs, deep_few, deep_operand, deep_not, deep_none}
 use Rattle.symbols.proofs.Symbols.{six}
 use Prim.Native.Nat.{ℕ, ◌<◌}
 use borrow.Fn.Kinds.{In}
@@ -48,8 +48,8 @@ nesting-nesting-requires : (t : ℕ) → nesting-lts.Need-nesting-requires (
 ) (nesting_at t) nesting.Post
 nesting-nesting-requires t c κs =
     let q = c.before.before.before.requires.1 in
-    let b = deep-parts q.e q.xs c.before.before.before.args.post.now c.before.before.before.args.p q.stands q.within c.if1.true in
-    (omega (arith, has_symbol q.e q.xs c.before.before.before.args.post.now c.before.before.before.args.p q.stands q.within, c.before.before.before.requires.0), record { e = b.a; xs = q.xs ++ postfix b.f; stands = right-stands q.e q.xs c.before.before.before.args.post.now c.before.before.before.args.p q.stands q.within b; within = omega (arith, q.within); few = omega (arith, q.few) })
+    let b = deep_parts q.e q.xs c.before.before.before.args.post.now c.before.before.before.args.p q.stands q.within c.if1.true in
+    (omega (arith, has_symbol q.e q.xs c.before.before.before.args.post.now c.before.before.before.args.p q.stands q.within, c.before.before.before.requires.0), record { e = b.a; xs = q.xs ++ postfix b.f; stands = right_stands q.e q.xs c.before.before.before.args.post.now c.before.before.before.args.p q.stands q.within b; within = omega (arith, q.within); few = omega (arith, q.few) })
 
 nesting-nesting-requires-2 : (t : ℕ) → nesting-lts.Need-nesting-requires-2 (
   nesting_below t,
@@ -57,29 +57,29 @@ nesting-nesting-requires-2 : (t : ℕ) → nesting-lts.Need-nesting-requires-2 (
 ) (nesting_at t) nesting.Post
 nesting-nesting-requires-2 t c κs =
     let q = c.before.before.before.before.requires.1 in
-    let b = deep-parts q.e q.xs c.before.before.before.before.args.post.now c.before.before.before.before.args.p q.stands q.within c.before.if1.true in
-    let x = c.nesting.ensures b.a (q.xs ++ postfix b.f) (right-stands q.e q.xs c.before.before.before.before.args.post.now c.before.before.before.before.args.p q.stands q.within b) in
+    let b = deep_parts q.e q.xs c.before.before.before.before.args.post.now c.before.before.before.before.args.p q.stands q.within c.before.if1.true in
+    let x = c.nesting.ensures b.a (q.xs ++ postfix b.f) (right_stands q.e q.xs c.before.before.before.before.args.post.now c.before.before.before.before.args.p q.stands q.within b) in
     let l = left_less q.e q.xs c.before.before.before.before.args.post.now c.before.before.before.before.args.p q.stands q.within b _ x.begins in
-    (omega (arith, l, c.before.before.before.before.requires.0), record { e = b.f; xs = q.xs; stands = left-stands q.e q.xs c.before.before.before.before.args.post.now c.before.before.before.before.args.p q.stands q.within b _ x.begins; within = omega (arith, l, q.within); few = omega (arith, l, q.few) })
+    (omega (arith, l, c.before.before.before.before.requires.0), record { e = b.f; xs = q.xs; stands = left_stands q.e q.xs c.before.before.before.before.args.post.now c.before.before.before.before.args.p q.stands q.within b _ x.begins; within = omega (arith, l, q.within); few = omega (arith, l, q.few) })
 
 nesting-returns :
     (t : ℕ) → nesting-lts.Need-returns (nesting_below t, nesting.Post) (nesting_at t) nesting.Post
 nesting-returns t c = λ e xs h.
     let w = c.before.before.before.before.before.before.before.before.requires.1.within in
-    let b = deep-parts e xs c.before.before.before.before.before.before.before.before.args.post.now c.before.before.before.before.before.before.before.before.args.p h w c.before.before.before.before.before.if1.true in
-    let x = c.before.before.before.before.nesting.ensures b.a (xs ++ postfix b.f) (right-stands e xs c.before.before.before.before.before.before.before.before.args.post.now c.before.before.before.before.before.before.before.before.args.p h w b) in
-    let y = c.before.before.before.nesting2.ensures b.f xs (left-stands e xs c.before.before.before.before.before.before.before.before.args.post.now c.before.before.before.before.before.before.before.before.args.p h w b _ x.begins) in
-    deep-two e xs c.before.before.before.before.before.before.before.before.args.post.now c.before.before.before.before.before.before.before.before.args.p h w c.before.before.before.before.before.if1.true _ _ _ _ _ x y (omega arith)
+    let b = deep_parts e xs c.before.before.before.before.before.before.before.before.args.post.now c.before.before.before.before.before.before.before.before.args.p h w c.before.before.before.before.before.if1.true in
+    let x = c.before.before.before.before.nesting.ensures b.a (xs ++ postfix b.f) (right_stands e xs c.before.before.before.before.before.before.before.before.args.post.now c.before.before.before.before.before.before.before.before.args.p h w b) in
+    let y = c.before.before.before.nesting2.ensures b.f xs (left_stands e xs c.before.before.before.before.before.before.before.before.args.post.now c.before.before.before.before.before.before.before.before.args.p h w b _ x.begins) in
+    deep_two e xs c.before.before.before.before.before.before.before.before.args.post.now c.before.before.before.before.before.before.before.before.args.p h w c.before.before.before.before.before.if1.true _ _ _ _ _ x y (omega arith)
 
 nesting-returns-2 :
     (t : ℕ) →
     nesting-lts.Need-returns-2 (nesting_below t, nesting.Post) (nesting_at t) nesting.Post
 nesting-returns-2 t c = λ e xs h.
     let w = c.before.before.before.before.before.before.before.before.requires.1.within in
-    let b = deep-parts e xs c.before.before.before.before.before.before.before.before.args.post.now c.before.before.before.before.before.before.before.before.args.p h w c.before.before.before.before.before.if1.true in
-    let x = c.before.before.before.before.nesting.ensures b.a (xs ++ postfix b.f) (right-stands e xs c.before.before.before.before.before.before.before.before.args.post.now c.before.before.before.before.before.before.before.before.args.p h w b) in
-    let y = c.before.before.before.nesting2.ensures b.f xs (left-stands e xs c.before.before.before.before.before.before.before.before.args.post.now c.before.before.before.before.before.before.before.before.args.p h w b _ x.begins) in
-    deep-two e xs c.before.before.before.before.before.before.before.before.args.post.now c.before.before.before.before.before.before.before.before.args.p h w c.before.before.before.before.before.if1.true _ _ _ _ _ x y (omega arith)
+    let b = deep_parts e xs c.before.before.before.before.before.before.before.before.args.post.now c.before.before.before.before.before.before.before.before.args.p h w c.before.before.before.before.before.if1.true in
+    let x = c.before.before.before.before.nesting.ensures b.a (xs ++ postfix b.f) (right_stands e xs c.before.before.before.before.before.before.before.before.args.post.now c.before.before.before.before.before.before.before.before.args.p h w b) in
+    let y = c.before.before.before.nesting2.ensures b.f xs (left_stands e xs c.before.before.before.before.before.before.before.before.args.post.now c.before.before.before.before.before.before.before.before.args.p h w b _ x.begins) in
+    deep_two e xs c.before.before.before.before.before.before.before.before.args.post.now c.before.before.before.before.before.before.before.before.args.p h w c.before.before.before.before.before.if1.true _ _ _ _ _ x y (omega arith)
 
 nesting-sub-nesting-2 :
     (t : ℕ) →
@@ -93,14 +93,14 @@ nesting-nesting-requires-3 : (t : ℕ) → nesting-lts.Need-nesting-requires-3 (
 nesting-nesting-requires-3 t c κs =
     let q = c.before.before.before.before.requires.1 in
     let b = deep_body q.e q.xs c.before.before.before.before.args.post.now c.before.before.before.before.args.p q.stands q.within c.if3.true in
-    (omega (arith, has_symbol q.e q.xs c.before.before.before.before.args.post.now c.before.before.before.before.args.p q.stands q.within, c.before.before.before.before.requires.0), record { e = b.a; xs = q.xs; stands = only-stands q.e q.xs c.before.before.before.before.args.post.now c.before.before.before.before.args.p q.stands q.within b; within = omega (arith, q.within); few = omega (arith, q.few) })
+    (omega (arith, has_symbol q.e q.xs c.before.before.before.before.args.post.now c.before.before.before.before.args.p q.stands q.within, c.before.before.before.before.requires.0), record { e = b.a; xs = q.xs; stands = only_stands q.e q.xs c.before.before.before.before.args.post.now c.before.before.before.before.args.p q.stands q.within b; within = omega (arith, q.within); few = omega (arith, q.few) })
 
 nesting-add-t15 :
     (t : ℕ) → nesting-lts.Need-overflow-add-t15 (nesting_below t, nesting.Post) (nesting_at t) nesting.Post
 nesting-add-t15 t c =
     let q = c.before.before.before.before.before.before.requires.1 in
     let b = deep_body q.e q.xs c.before.before.before.before.before.before.args.post.now c.before.before.before.before.before.before.args.p q.stands q.within c.before.before.if3.true in
-    omega (arith, deep-few q.e q.xs c.before.before.before.before.before.before.args.post.now c.before.before.before.before.before.before.args.p q.stands q.within c.before.before.if3.true _ _ (c.before.nesting3.ensures b.a q.xs (only-stands q.e q.xs c.before.before.before.before.before.before.args.post.now c.before.before.before.before.before.before.args.p q.stands q.within b)), q.few)
+    omega (arith, deep_few q.e q.xs c.before.before.before.before.before.before.args.post.now c.before.before.before.before.before.before.args.p q.stands q.within c.before.before.if3.true _ _ (c.before.nesting3.ensures b.a q.xs (only_stands q.e q.xs c.before.before.before.before.before.before.args.post.now c.before.before.before.before.before.before.args.p q.stands q.within b)), q.few)
 
 nesting-returns-3 :
     (t : ℕ) →
@@ -108,7 +108,7 @@ nesting-returns-3 :
 nesting-returns-3 t c = λ e xs h.
     let w = c.before.before.before.before.before.before.requires.1.within in
     let b = deep_body e xs c.before.before.before.before.before.before.args.post.now c.before.before.before.before.before.before.args.p h w c.before.before.if3.true in
-    deep-abs e xs c.before.before.before.before.before.before.args.post.now c.before.before.before.before.before.before.args.p h w c.before.before.if3.true _ _ (c.before.nesting3.ensures b.a xs (only-stands e xs c.before.before.before.before.before.before.args.post.now c.before.before.before.before.before.before.args.p h w b))
+    deep_abs e xs c.before.before.before.before.before.before.args.post.now c.before.before.before.before.before.before.args.p h w c.before.before.if3.true _ _ (c.before.nesting3.ensures b.a xs (only_stands e xs c.before.before.before.before.before.before.args.post.now c.before.before.before.before.before.before.args.p h w b))
 
 nesting-sub-nesting-3 :
     (t : ℕ) →
@@ -121,16 +121,16 @@ nesting-nesting-requires-4 : (t : ℕ) → nesting-lts.Need-nesting-requires-4 (
 ) (nesting_at t) nesting.Post
 nesting-nesting-requires-4 t c κs =
     let q = c.before.before.before.before.before.requires.1 in
-    let b = deep-operand q.e q.xs c.before.before.before.before.before.args.post.now c.before.before.before.before.before.args.p q.stands q.within c.if4.true in
-    (omega (arith, has_symbol q.e q.xs c.before.before.before.before.before.args.post.now c.before.before.before.before.before.args.p q.stands q.within, c.before.before.before.before.before.requires.0), record { e = b.a; xs = q.xs; stands = only-stands q.e q.xs c.before.before.before.before.before.args.post.now c.before.before.before.before.before.args.p q.stands q.within b; within = omega (arith, q.within); few = omega (arith, q.few) })
+    let b = deep_operand q.e q.xs c.before.before.before.before.before.args.post.now c.before.before.before.before.before.args.p q.stands q.within c.if4.true in
+    (omega (arith, has_symbol q.e q.xs c.before.before.before.before.before.args.post.now c.before.before.before.before.before.args.p q.stands q.within, c.before.before.before.before.before.requires.0), record { e = b.a; xs = q.xs; stands = only_stands q.e q.xs c.before.before.before.before.before.args.post.now c.before.before.before.before.before.args.p q.stands q.within b; within = omega (arith, q.within); few = omega (arith, q.few) })
 
 nesting-returns-4 :
     (t : ℕ) →
     nesting-lts.Need-returns-4 (nesting_below t, nesting.Post) (nesting_at t) nesting.Post
 nesting-returns-4 t c = λ e xs h.
     let w = c.before.before.before.before.before.before.requires.1.within in
-    let b = deep-operand e xs c.before.before.before.before.before.before.args.post.now c.before.before.before.before.before.before.args.p h w c.before.if4.true in
-    deep-not e xs c.before.before.before.before.before.before.args.post.now c.before.before.before.before.before.before.args.p h w c.before.if4.true _ _ (c.nesting4.ensures b.a xs (only-stands e xs c.before.before.before.before.before.before.args.post.now c.before.before.before.before.before.before.args.p h w b))
+    let b = deep_operand e xs c.before.before.before.before.before.before.args.post.now c.before.before.before.before.before.before.args.p h w c.before.if4.true in
+    deep_not e xs c.before.before.before.before.before.before.args.post.now c.before.before.before.before.before.before.args.p h w c.before.if4.true _ _ (c.nesting4.ensures b.a xs (only_stands e xs c.before.before.before.before.before.before.args.post.now c.before.before.before.before.before.before.args.p h w b))
 
 nesting-sub-t8 :
     (t : ℕ) → nesting-lts.Need-overflow-sub-t8 (nesting_below t, nesting.Post) (nesting_at t) nesting.Post

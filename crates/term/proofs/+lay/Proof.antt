@@ -6,7 +6,7 @@ use lib.ListN.{length}
 use Rattle.bracket.proofs.Runs.{begins, ends}
 use Rattle.index.proofs.Ready.{node_ready}
 use Rattle.table.proofs.Making.{leaf_words}
-use Rattle.term.proofs.Laying.{is_stem_lem, is_fork, stem_wants, fork_wants, full_ready, lay_leaf, stem-stops, lay-stem, second-stops, first_stops, lay-fork}
+use Rattle.term.proofs.Laying.{is_stem_lem, is_fork, stem_wants, fork_wants, full_ready, lay_leaf, stem_stops, lay_stem, second_stops, first_stops, lay_fork}
 use borrow.Author.Rules.{rules}
 use borrow.Fn.Kinds.{In}
 use borrow.Fn.PlainCycle.{Measures, is, falls, and}
@@ -75,7 +75,7 @@ lay-same-length-4 t c = c.before.before.before.before.before.before.lay.auto.1.1
 lay-returns-2 : (t : ℕ) → lay-lts.Need-returns-2 (claims t) (lay_at t) lay.Post
 lay-returns-2 t c =
     let c₁ = c.before.before.before.before.before.before in
-    (λ x h. stem-stops _ _ _ _ x h _ _ c₁.before.before.before.if2.true c₁.lay.ensures.0 c.enum_told.given.1, full_ready _ _ _)
+    (λ x h. stem_stops _ _ _ _ x h _ _ c₁.before.before.before.if2.true c₁.lay.ensures.0 c.enum_told.given.1, full_ready _ _ _)
 
 lay-add-make : (t : ℕ) → lay-lts.Need-overflow-add-make (claims t) (lay_at t) lay.Post
 lay-add-make t c =
@@ -107,7 +107,7 @@ lay-returns-3 : (t : ℕ) → lay-lts.Need-returns-3 (claims t) (lay_at t) lay.P
 lay-returns-3 t c =
     let c₁ = c.before.before.before.before.before.before.before.before.before.before.before.before.before.before in
     let m = c.before.before.before.before.make2.ensures in
-    (λ x h. lay-stem _ _ _ _ x h _ _ c₁.before.before.before.if2.true c₁.lay.ensures.0 c.before.before.before.before.before.before.before.before.only.given.1 _ _ m.0, m.1)
+    (λ x h. lay_stem _ _ _ _ x h _ _ c₁.before.before.before.if2.true c₁.lay.ensures.0 c.before.before.before.before.before.before.before.before.only.given.1 _ _ m.0, m.1)
 
 lay-add-u : (t : ℕ) → lay-lts.Need-overflow-add-u (claims t) (lay_at t) lay.Post
 lay-add-u t c =
@@ -147,7 +147,7 @@ lay-same-length-8 t c = c.before.before.before.before.before.before.lay2.auto.1.
 lay-returns-4 : (t : ℕ) → lay-lts.Need-returns-4 (claims t) (lay_at t) lay.Post
 lay-returns-4 t c =
     let c₁ = c.before.before.before.before.before.before in
-    (λ x h. second-stops _ _ _ _ x h _ _ c₁.before.before.before.before.if1.false c₁.before.before.before.if2.false c₁.lay2.ensures.0 c.enum-told2.given.1, full_ready _ _ _)
+    (λ x h. second_stops _ _ _ _ x h _ _ c₁.before.before.before.before.if1.false c₁.before.before.before.if2.false c₁.lay2.ensures.0 c.enum-told2.given.1, full_ready _ _ _)
 
 lay-lay-requires-3 : (t : ℕ) → lay-lts.Need-lay-requires-3 (claims t) (lay_at t) lay.Post
 lay-lay-requires-3 t c κs =
@@ -223,7 +223,7 @@ lay-returns-6 t c =
     let c₁ = c.before.before.before.before.before.before.before.before.before.before.before.before.before.before in
     let c₂ = c₁.before.before.before.before.before.before.before.before.before.before in
     let m = c.before.before.before.before.make3.ensures in (
-      λ x h. lay-fork _ _ _ _ x h _ _ c₂.before.before.before.before.if1.false c₂.before.before.before.if2.false c₂.lay2.ensures.0 c₁.before.before.before.before.second.given.1 _ _ c₁.lay3.ensures.0 c.before.before.before.before.before.before.before.before.first.given.1 _ _ m.0,
+      λ x h. lay_fork _ _ _ _ x h _ _ c₂.before.before.before.before.if1.false c₂.before.before.before.if2.false c₂.lay2.ensures.0 c₁.before.before.before.before.second.given.1 _ _ c₁.lay3.ensures.0 c.before.before.before.before.before.before.before.before.first.given.1 _ _ m.0,
       m.1,
     )
 

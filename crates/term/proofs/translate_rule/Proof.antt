@@ -1,7 +1,7 @@
 -- `term::translate_rule` meets its contract: 5, or 9 by the check for frames, or the tree that is laid out. Assumes nothing.
 use native.Mathlib.Omega.{arith}
 use Rattle.rule_size.proofs.Sizes.{no_rule, sized}
-use Rattle.term.proofs.Outcomes.{refuses, refused_rule, few_frames, in_place, of-place}
+use Rattle.term.proofs.Outcomes.{refuses, refused_rule, few_frames, in_place, of_place}
 use borrow.Author.Rules.{rules}
 use Rattle.term.proofs.translate_rule.Statement.{statement}
 use Rattle.term.proofs.translate_rule.Tie as tie
@@ -59,7 +59,7 @@ returns-3 c =
     let c₂ = c₁.before.before.before.before.before.before.before.before in
     let c₃ = c₂.before.before in
     let k = sized _ c₃.before.rule_size_lem.ensures c₃.if1.false in
-    (of-place _ _ _ _ k c₂.check-frames.ensures c₁.before.before.before.before.enum_told.given.1 _ c₁.place.ensures.0, c₁.place.ensures.1)
+    (of_place _ _ _ _ k c₂.check-frames.ensures c₁.before.before.before.before.enum_told.given.1 _ c₁.place.ensures.0, c₁.place.ensures.1)
 
 pub translate_rule_spec : {M : Type 1} → statement M
 translate_rule_spec =

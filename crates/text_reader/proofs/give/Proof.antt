@@ -1,7 +1,7 @@
 -- `text_reader::give` meets its contract: each check. Assumes nothing.
 use native.Mathlib.Omega.{arith}
 use mathlib.Core.List.{[]}
-use Rattle.text_reader.proofs.Giving.{ends_some, no-abs, too_long, too_deep, no_room, encode_at, encoded}
+use Rattle.text_reader.proofs.Giving.{ends_some, no_abs, too_long, too_deep, no_room, encode_at, encoded}
 use borrow.Author.Rules.{rules}
 use Rattle.text_reader.proofs.give.Statement.{statement}
 use Rattle.text_reader.proofs.give.Tie as tie
@@ -16,7 +16,7 @@ shared-slice-read-if1 : tie.Need-shared-slice-read-if1
 shared-slice-read-if1 c = omega (arith, ends_some _ _ _ c.before.before.before.requires.is, c.before.before.before.requires.is.within)
 
 returns : tie.Need-returns
-returns c = λ e q. no-abs e _ _ q _ c.if1.true
+returns c = λ e q. no_abs e _ _ q _ c.if1.true
 
 measure-requires : tie.Need-measure-requires
 measure-requires c κs = (c.before.before.before.before.requires.is.within, c.before.before.before.before.requires.is.few)

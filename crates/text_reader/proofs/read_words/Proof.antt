@@ -2,7 +2,7 @@
 use native.Mathlib.Omega.{arith}
 use lib.ListN.{length}
 use Rattle.parser.proofs.Phrases.{told_phrase, told_nothing}
-use Rattle.text_reader.proofs.Giving.{words_asks, words_none, words_more, words-stand, words-given}
+use Rattle.text_reader.proofs.Giving.{words_asks, words_none, words_more, words_stand, words_given}
 use borrow.Author.Rules.{rules}
 use Rattle.text_reader.proofs.read_words.Statement.{statement}
 use Rattle.text_reader.proofs.read_words.Tie as tie
@@ -39,7 +39,7 @@ returns-2 c =
 give-requires : tie.Need-give-requires
 give-requires c κs =
     let o = told_phrase _ _ _ _ _ _ c.before.before.before.before.before.before.before.before.before.before.expression.ensures.0 c.before.before.before.before.next.given.1 in
-    record { e = o.e; is = words-stand c.before.before.before.before.before.before.before.before.before.before.before.before.before.before.before.before.before.args.words.now c.before.before.before.before.before.before.before.before.before.before.before.before.before.before.before.before.before.args.names.now c.before.before.before.before.before.before.before.before.before.before.before.before.before.before.before.before.before.args.post.now (length c.before.before.before.before.before.before.before.before.before.before.before.before.before.before.before.before.before.args.names.now) (omega arith) _ c.before.before.before.before.next.given.0.0 _ o c.before.before.if1.false c.before.before.before.before.before.before.before.before.before.before.expression.auto.1.1.1.1.1.0 c.before.before.before.before.before.before.before.before.before.before.before.before.before.before.before.before.before.requires.post_few }
+    record { e = o.e; is = words_stand c.before.before.before.before.before.before.before.before.before.before.before.before.before.before.before.before.before.args.words.now c.before.before.before.before.before.before.before.before.before.before.before.before.before.before.before.before.before.args.names.now c.before.before.before.before.before.before.before.before.before.before.before.before.before.before.before.before.before.args.post.now (length c.before.before.before.before.before.before.before.before.before.before.before.before.before.before.before.before.before.args.names.now) (omega arith) _ c.before.before.before.before.next.given.0.0 _ o c.before.before.if1.false c.before.before.before.before.before.before.before.before.before.before.expression.auto.1.1.1.1.1.0 c.before.before.before.before.before.before.before.before.before.before.before.before.before.before.before.before.before.requires.post_few }
 
 same-length-5 : tie.Need-same-length-5
 same-length-5 c = search rules
@@ -53,8 +53,8 @@ same-length-7 c = search rules
 returns-3 : tie.Need-returns-3
 returns-3 c =
     let o = told_phrase _ _ _ _ _ _ c.before.before.before.before.before.before.before.before.before.before.before.before.before.expression.ensures.0 c.before.before.before.before.before.before.before.next.given.1 in
-    let s = words-stand c.before.before.before.before.before.before.before.before.before.before.before.before.before.before.before.before.before.before.before.before.args.words.now c.before.before.before.before.before.before.before.before.before.before.before.before.before.before.before.before.before.before.before.before.args.names.now c.before.before.before.before.before.before.before.before.before.before.before.before.before.before.before.before.before.before.before.before.args.post.now (length c.before.before.before.before.before.before.before.before.before.before.before.before.before.before.before.before.before.before.before.before.args.names.now) (omega arith) _ c.before.before.before.before.before.before.before.next.given.0.0 _ o c.before.before.before.before.before.if1.false c.before.before.before.before.before.before.before.before.before.before.before.before.before.expression.auto.1.1.1.1.1.0 c.before.before.before.before.before.before.before.before.before.before.before.before.before.before.before.before.before.before.before.before.requires.post_few in
-    words-given c.before.before.before.before.before.before.before.before.before.before.before.before.before.before.before.before.before.before.before.before.args.words.now c.before.before.before.before.before.before.before.before.before.before.before.before.before.before.before.before.before.before.before.before.args.names.now c.before.before.before.before.before.before.before.before.before.before.before.before.before.before.before.before.before.before.before.before.args.post.now (length c.before.before.before.before.before.before.before.before.before.before.before.before.before.before.before.before.before.before.before.before.args.names.now) (omega arith) _ c.before.before.before.before.before.before.before.next.given.0.0 _ o c.before.before.before.before.before.if1.false _ (c.before.before.give.ensures o.e s)
+    let s = words_stand c.before.before.before.before.before.before.before.before.before.before.before.before.before.before.before.before.before.before.before.before.args.words.now c.before.before.before.before.before.before.before.before.before.before.before.before.before.before.before.before.before.before.before.before.args.names.now c.before.before.before.before.before.before.before.before.before.before.before.before.before.before.before.before.before.before.before.before.args.post.now (length c.before.before.before.before.before.before.before.before.before.before.before.before.before.before.before.before.before.before.before.before.args.names.now) (omega arith) _ c.before.before.before.before.before.before.before.next.given.0.0 _ o c.before.before.before.before.before.if1.false c.before.before.before.before.before.before.before.before.before.before.before.before.before.expression.auto.1.1.1.1.1.0 c.before.before.before.before.before.before.before.before.before.before.before.before.before.before.before.before.before.before.before.before.requires.post_few in
+    words_given c.before.before.before.before.before.before.before.before.before.before.before.before.before.before.before.before.before.before.before.before.args.words.now c.before.before.before.before.before.before.before.before.before.before.before.before.before.before.before.before.before.before.before.before.args.names.now c.before.before.before.before.before.before.before.before.before.before.before.before.before.before.before.before.before.before.before.before.args.post.now (length c.before.before.before.before.before.before.before.before.before.before.before.before.before.before.before.before.before.before.before.before.args.names.now) (omega arith) _ c.before.before.before.before.before.before.before.next.given.0.0 _ o c.before.before.before.before.before.if1.false _ (c.before.before.give.ensures o.e s)
 
 pub read_words_spec : {M : Type 1} → statement M
 read_words_spec =

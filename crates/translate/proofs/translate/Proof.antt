@@ -1,5 +1,5 @@
 -- `translate::translate` meets its contract: 1, and the table's length. Assumes nothing.
-use Rattle.translate.proofs.Ways.{refused_long, over-used, long-stack}
+use Rattle.translate.proofs.Ways.{refused_long, over_used, long_stack}
 use borrow.Author.Rules.{rules}
 use Rattle.translate.proofs.translate.Statement.{statement}
 use Rattle.translate.proofs.translate.Tie as tie
@@ -20,7 +20,7 @@ returns-2 : tie.Need-returns-2
 returns-2 c = c.before.before.before.before.translate-64.ensures
 
 returns-3 : tie.Need-returns-3
-returns-3 c = over-used _ _ _ _ c.before.before.if1.false c.if3.true
+returns-3 c = over_used _ _ _ _ c.before.before.if1.false c.if3.true
 
 translate-1024-requires : tie.Need-translate-1024-requires
 translate-1024-requires c κs = search rules
@@ -35,7 +35,7 @@ returns-4 : tie.Need-returns-4
 returns-4 c = c.before.before.before.before.translate-1024.ensures
 
 returns-5 : tie.Need-returns-5
-returns-5 c = long-stack _ _ _ _ c.before.before.before.before.if1.false c.if5.true
+returns-5 c = long_stack _ _ _ _ c.before.before.before.before.if1.false c.if5.true
 
 translate-8192-requires : tie.Need-translate-8192-requires
 translate-8192-requires c κs = search rules

@@ -4,7 +4,7 @@ use mathlib.Core.Path.{refl, sym, ◌∙◌}
 use lib.ListN.{length-replicate}
 use native.Mathlib.Omega.{arith}
 use Rattle.index.proofs.Ready.{empty_index}
-use Rattle.translate.proofs.Ways.{refused-entry, short_stack, past-entry}
+use Rattle.translate.proofs.Ways.{refused_entry, short_stack, past_entry}
 use Rattle.translate.proofs.translate_65536.Statement.{statement}
 use Rattle.translate.proofs.translate_65536.Tie as tie
 
@@ -27,7 +27,7 @@ returns : tie.Need-returns
 returns c =
     let h = c.before.before.before.before in
     let a = h.before.before.before.before.before.before.before.args in
-    refused-entry a.table.now a.used a.stack.now a.bytes.now h.check-in.ensures.0 c.before.checked.given.1
+    refused_entry a.table.now a.used a.stack.now a.bytes.now h.check-in.ensures.0 c.before.checked.given.1
 
 enum_told : tie.Need-enum-told
 enum_told c = c.match.keys2
@@ -52,7 +52,7 @@ returns-2 : tie.Need-returns-2
 returns-2 c =
     let h = c.before.before.before.before.before.before.before.before.before.before.before.before in
     let a = h.before.before.before.before.before.before.before.args in
-    past-entry a.table.now a.used a.stack.now a.bytes.now h.check-in.ensures.0 c.before.before.before.before.before.before.before.before.before.enum_told.given.1 c.before.before.before.before.before.translate-rule.ensures.0
+    past_entry a.table.now a.used a.stack.now a.bytes.now h.check-in.ensures.0 c.before.before.before.before.before.before.before.before.before.enum_told.given.1 c.before.before.before.before.before.translate-rule.ensures.0
 
 pub translate_65536_spec : {M : Type 1} → statement M
 translate_65536_spec =

@@ -8,7 +8,7 @@ use Rattle.calculus.specs.Tree.{leaf}
 use Rattle.table.specs.Nodes.{tree_at}
 use Rattle.labelled.specs.Unlabel.{is_leaf, is_kk}
 use Rattle.table.specs.Branches.{IsStem, IsFork}
-use Rattle.unlabel.proofs.Ways.{told_leaf, told_stem, told_fork, no_leaf, no_stem, no_fork, kk_first, kk-second, kk-last, leaf_passes}
+use Rattle.unlabel.proofs.Ways.{told_leaf, told_stem, told_fork, no_leaf, no_stem, no_fork, kk_first, kk_second, kk_last, leaf_passes}
 use borrow.Author.Rules.{rules}
 use Rattle.unlabel.proofs.is_constant.Statement.{statement}
 use Rattle.unlabel.proofs.is_constant.Tie as tie
@@ -28,7 +28,7 @@ second c = told_stem c.before.before.before.shape-at3.ensures c.before.second.gi
 
 last : (c : tie.After-known-told2) {z : Bool} → is_leaf (tree_at (words c.before.before.before.before.before.before.before) c.before.second.given.0.0) ≡ z
     → z ≡ is_kk (tree_at (words c.before.before.before.before.before.before.before) c.before.before.before.before.before.before.before.before.before.before.before.before.args.node)
-last c h = sym (kk-last (whole c.before.before.before.before.before.before.before) (first c.before.before.before.before) (second c) h)
+last c h = sym (kk_last (whole c.before.before.before.before.before.before.before) (first c.before.before.before.before) (second c) h)
 
 shape-at-requires : tie.Need-shape-at-requires
 shape-at-requires c κs = search rules
@@ -55,7 +55,7 @@ enum-known-second : tie.Need-enum-known-second
 enum-known-second c = search rules
 
 returns-3 : tie.Need-returns-3
-returns-3 c = sym (kk-second (whole c.before.before.before.before.before) (first c.before.before) (no_stem c.before.shape-at3.ensures c.match3.keys2).1)
+returns-3 c = sym (kk_second (whole c.before.before.before.before.before) (first c.before.before) (no_stem c.before.shape-at3.ensures c.match3.keys2).1)
 
 shape-at-requires-4 : tie.Need-shape-at-requires-4
 shape-at-requires-4 c κs = (second c).branch

@@ -1,6 +1,6 @@
 -- `unlabel::unlabel_node` meets its contract: the tests of the labelled form, branch by branch. Assumes nothing.
 use Rattle.table.specs.Branches.{IsFork}
-use Rattle.unlabel.proofs.Ways.{told_fork, no_fork, told_node, told_other, no_labelled, no_label_branch, no-rule-branch, both-branches}
+use Rattle.unlabel.proofs.Ways.{told_fork, no_fork, told_node, told_other, no_labelled, no_label_branch, no_rule_branch, both_branches}
 use borrow.Author.Rules.{rules}
 use Rattle.unlabel.proofs.unlabel_node.Statement.{statement}
 use Rattle.unlabel.proofs.unlabel_node.Tie as tie
@@ -42,13 +42,13 @@ enum-told-2 c = search rules
 returns-3 : tie.Need-returns-3
 returns-3 c =
     let l = told_node c.before.before.before.before.before.before.label-under.ensures c.before.before.before.before.first.given.1 in
-    no-rule-branch (whole c.before.before.before.before.before.before.before) l.0 (told_other c.before.before.rule-under.ensures c.enum-told2.given.1)
+    no_rule_branch (whole c.before.before.before.before.before.before.before) l.0 (told_other c.before.before.rule-under.ensures c.enum-told2.given.1)
 
 returns-4 : tie.Need-returns-4
 returns-4 c =
     let l = told_node c.before.before.before.before.before.before.before.label-under.ensures c.before.before.before.before.before.first.given.1 in
     let r = told_node c.before.before.before.rule-under.ensures c.before.second.given.1 in
-    both-branches (whole c.before.before.before.before.before.before.before.before) l.0 r.0 r.1 l.1
+    both_branches (whole c.before.before.before.before.before.before.before.before) l.0 r.0 r.1 l.1
 
 pub unlabel_node_spec : {M : Type 1} → statement M
 unlabel_node_spec =

@@ -7,7 +7,7 @@ use lib.ListN.{length, drop}
 use borrow.Author.Tests.{not-true, not-false}
 use borrow.Author.Rules.{rules}
 use Rattle.week.specs.Weeks.{is_day_from}
-use Rattle.week_check.proofs.Passing.{after-unused, after-window, day-broken, day_right}
+use Rattle.week_check.proofs.Passing.{after_unused, after_window, day_broken, day_right}
 use Rattle.week_check.proofs.is_day.Statement.{statement}
 use Rattle.week_check.proofs.is_day.Tie as tie
 
@@ -33,7 +33,7 @@ returns : tie.Need-returns invariant-loop decreases-loop
 returns c =
     let q = c.before.before.before.before in
     let l : length q.before.args.t1 ≡ 4 = q.before.well-formed.0.1.0.1 in
-    day-broken q.before.args.t1 q.loop.i q.loop.from q.loop.invariant.1 _ (omega arith) (sym c.before.fits2.ensures ∙ not-true _ c.if1.true)
+    day_broken q.before.args.t1 q.loop.i q.loop.from q.loop.invariant.1 _ (omega arith) (sym c.before.fits2.ensures ∙ not-true _ c.if1.true)
 
 add-i : tie.Need-overflow-add-i invariant-loop decreases-loop
 add-i c = omega arith
@@ -48,7 +48,7 @@ loop-again c =
     let l : length a ≡ 4 = q.before.well-formed.0.1.0.1 in
     let f = sym c.before.before.before.fits2.ensures ∙ not-false _ c.before.before.if1.false in
     let h : q.loop.i < length a = omega arith in
-    (omega arith, ⊎_elim (λ t. after-unused a q.loop.i q.loop.from q.loop.invariant.1 _ h f t.0.taken t.1) (λ t. after-window a q.loop.i q.loop.from q.loop.invariant.1 _ h f t.0.left t.1) c.if2.branch)
+    (omega arith, ⊎_elim (λ t. after_unused a q.loop.i q.loop.from q.loop.invariant.1 _ h f t.0.taken t.1) (λ t. after_window a q.loop.i q.loop.from q.loop.invariant.1 _ h f t.0.left t.1) c.if2.branch)
 
 returns-2 : tie.Need-returns-2 invariant-loop decreases-loop
 returns-2 c =

@@ -6,7 +6,7 @@ use lib.ListN.{length, drop}
 use borrow.Author.Rules.{rules}
 use borrow.Author.Tests.{not-true, not-false}
 use Rattle.week.specs.Weeks.{all_days}
-use Rattle.week_check.proofs.Passing.{after-day, week-broken, week_right}
+use Rattle.week_check.proofs.Passing.{after_day, week_broken, week_right}
 use Rattle.week_check.proofs.is_week.Statement.{statement}
 use Rattle.week_check.proofs.is_week.Tie as tie
 
@@ -32,7 +32,7 @@ returns : tie.Need-returns invariant-loop decreases-loop
 returns c =
     let q = c.before.before.before.before in
     let l : length q.before.args.t1 ≡ 7 = q.before.well-formed.0.1.0.1 in
-    week-broken q.before.args.t1 q.loop.d q.loop.invariant.1 _ (omega arith) (sym c.before.is-day.ensures ∙ not-true _ c.if1.true)
+    week_broken q.before.args.t1 q.loop.d q.loop.invariant.1 _ (omega arith) (sym c.before.is-day.ensures ∙ not-true _ c.if1.true)
 
 add-d : tie.Need-overflow-add-d invariant-loop decreases-loop
 add-d c = omega arith
@@ -44,7 +44,7 @@ loop-again : tie.Need-loop-preserved invariant-loop decreases-loop
 loop-again c =
     let q = c.before.before.before.before in
     let l : length q.before.args.t1 ≡ 7 = q.before.well-formed.0.1.0.1 in
-    (omega arith, after-day q.before.args.t1 q.loop.d q.loop.invariant.1 _ (omega arith) (sym c.before.is-day.ensures ∙ not-false _ c.if1.false))
+    (omega arith, after_day q.before.args.t1 q.loop.d q.loop.invariant.1 _ (omega arith) (sym c.before.is-day.ensures ∙ not-false _ c.if1.false))
 
 returns-2 : tie.Need-returns-2 invariant-loop decreases-loop
 returns-2 c =

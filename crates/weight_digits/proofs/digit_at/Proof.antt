@@ -8,7 +8,7 @@ use Rattle.table.specs.Branches.{InUse}
 use Rattle.weights.specs.Digits.{digit_after, digit_of}
 use Rattle.weights.proofs.Trees.{too_many}
 use Rattle.weight_digits.specs.Code.{digit_by}
-use Rattle.weight_digits.proofs.Ways.{inside, digit_leaf, digit-other, digit-stem, digit-more}
+use Rattle.weight_digits.proofs.Ways.{inside, digit_leaf, digit_other, digit_stem, digit_more}
 use Rattle.weight_digits.proofs.digit_at.Statement.{statement}
 use Rattle.weight_digits.proofs.digit_at.Tie as tie
 
@@ -38,7 +38,7 @@ returns-3 : tie.Need-returns-3 invariant-loop decreases-loop
 returns-3 c = λ i.
     let e = c.before.before.before in
     let r = e.before.before.loop.invariant.1 i in
-    digit-other _ r.0 c.before.word.ensures.0 e.if1.false c.if3.true ∙ sym r.1
+    digit_other _ r.0 c.before.word.ensures.0 e.if1.false c.if3.true ∙ sym r.1
 
 mul-word-2 : tie.Need-overflow-mul-word-2 invariant-loop decreases-loop
 mul-word-2 c = omega arith
@@ -53,7 +53,7 @@ returns-4 : tie.Need-returns-4 invariant-loop decreases-loop
 returns-4 c = λ i.
     let e = c.before.before in
     let r = e.before.before.before.before.before.loop.invariant.1 i in
-    digit-stem _ r.0 e.before.word.ensures.0 e.if3.false c.before.word2.ensures.0 c.if4.true ∙ sym r.1
+    digit_stem _ r.0 e.before.word.ensures.0 e.if3.false c.before.word2.ensures.0 c.if4.true ∙ sym r.1
 
 sub_at : tie.Need-overflow-sub-at invariant-loop decreases-loop
 sub_at c = omega arith
@@ -70,7 +70,7 @@ loop-again c = (
   λ i.
       let e = c.before.before in
       let r = e.before.before.before.before.before.loop.invariant.1 i in
-      let m = digit-more _ r.0 e.before.word.ensures.0 e.if3.false c.before.word2.ensures.0 c.if4.false in
+      let m = digit_more _ r.0 e.before.word.ensures.0 e.if3.false c.before.word2.ensures.0 c.if4.false in
       (m.0, r.1 ∙ m.1),
 )
 

@@ -1,5 +1,5 @@
 -- `weight_digits::item_at` meets its contract: no item for a leaf and for a stem, the branches of a fork. Assumes nothing.
-use Rattle.weight_digits.proofs.Ways.{inside, item_leaf, item-stem, item_in, item-fork}
+use Rattle.weight_digits.proofs.Ways.{inside, item_leaf, item_stem, item_in, item_fork}
 use borrow.Author.Rules.{rules}
 use Rattle.weight_digits.proofs.item_at.Statement.{statement}
 use Rattle.weight_digits.proofs.item_at.Tie as tie
@@ -26,7 +26,7 @@ word-requires-2 : tie.Need-word-requires-2
 word-requires-2 c κs = search rules
 
 returns-3 : tie.Need-returns-3
-returns-3 c = λ i. let e = c.before.before in item-stem i e.before.word.ensures.0 e.if2.false c.before.word2.ensures.0 c.if3.true
+returns-3 c = λ i. let e = c.before.before in item_stem i e.before.word.ensures.0 e.if2.false c.before.word2.ensures.0 c.if3.true
 
 sub-digit-at : tie.Need-overflow-sub-digit-at
 sub-digit-at c = search rules
@@ -43,7 +43,7 @@ returns-4 c = λ i.
     let e = f.before.before in
     let p = e.before.word.ensures.0 in
     let q = f.before.word2.ensures.0 in
-    item-fork i p e.if2.false q f.if3.false (c.digit_at.ensures (item_in i p e.if2.false q f.if3.false))
+    item_fork i p e.if2.false q f.if3.false (c.digit_at.ensures (item_in i p e.if2.false q f.if3.false))
 
 pub item_at_spec : {M : Type 1} → statement M
 item_at_spec =

@@ -6,7 +6,7 @@ use mathlib.Core.Path.{◌≡◌}
 use native.Mathlib.Omega.{arith}
 use lib.ListN.{length}
 use Rattle.whole_text.specs.Code.{wanted_of, ScanSays}
-use Rattle.whole_text.proofs.Scanning.{Scans, scan_start, scan_few, scan-digit, scan-broken, scan-whole, scan-wants}
+use Rattle.whole_text.proofs.Scanning.{Scans, scan_start, scan_few, scan_digit, scan_broken, scan_whole, scan_wants}
 use borrow.Author.Rules.{rules}
 use Rattle.whole_text.proofs.scan.Statement.{statement}
 use Rattle.whole_text.proofs.scan.Tie as tie
@@ -37,7 +37,7 @@ unfolding ScanSays wanted_of
 returns c =
     let a = c.before.before in
     let j = a.before.before in
-    scan-broken j.before.before.loop.invariant j.before.loop-test.true (rw c.enum_told.given.1 at a.wanted-after.ensures)
+    scan_broken j.before.before.loop.invariant j.before.loop-test.true (rw c.enum_told.given.1 at a.wanted-after.ensures)
 
 add-i : tie.Need-overflow-add-i invariant-loop decreases-loop
 add-i c = search rules
@@ -52,14 +52,14 @@ loop-again c =
     let j = a.before.before in
     let m : j.if1.most ≡ max j.before.before.loop.most j.before.before.loop.wanted =
     ⊎_elim (λ w. omega (arith, w.0.taken, w.1)) (λ w. omega (arith, w.0.left, w.1)) j.if1.branch in
-    scan-digit j.before.before.loop.invariant j.before.loop-test.true _ _ (rw c.before.n.given.1 at a.wanted-after.ensures) m
+    scan_digit j.before.before.loop.invariant j.before.loop-test.true _ _ (rw c.before.n.given.1 at a.wanted-after.ensures) m
 
 returns-2 : tie.Need-returns-2 invariant-loop decreases-loop
-returns-2 c = scan-whole c.before.before.loop.invariant c.before.loop-test.false c.if2.true
+returns-2 c = scan_whole c.before.before.loop.invariant c.before.loop-test.false c.if2.true
 
 returns-3 : tie.Need-returns-3 invariant-loop decreases-loop
 unfolding ScanSays
-returns-3 c = scan-wants c.before.before.loop.invariant c.before.loop-test.false c.if2.false
+returns-3 c = scan_wants c.before.before.loop.invariant c.before.loop-test.false c.if2.false
 
 pub scan_spec : {M : Type 1} → statement M
 scan_spec =

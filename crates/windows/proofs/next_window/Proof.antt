@@ -7,7 +7,7 @@ use borrow.Author.Tests.{not-true, not-false}
 use Rattle.week.specs.Weeks.{next_window}
 use Rattle.week.proofs.Checks.{valid}
 use Rattle.windows.proofs.Ahead.{NoneWithin, none_at_first, none_ahead}
-use Rattle.windows.proofs.Ways.{refused_first, day-below, minute-below, found-ahead, reached-ahead, none-ahead-of}
+use Rattle.windows.proofs.Ways.{refused_first, day_below, minute_below, found_ahead, reached_ahead, none_ahead_of}
 use Rattle.windows.proofs.next_window.Statement.{statement}
 use Rattle.windows.proofs.next_window.Tie as tie
 
@@ -28,7 +28,7 @@ loop-holds : tie.Need-loop-init invariant-loop decreases-loop
 loop-holds c = (omega arith, omega arith, none_at_first _ _ _)
 
 add-d : tie.Need-overflow-add-d invariant-loop decreases-loop
-add-d c = let h = day-below _ _ _ (sym c.before.before.before.passes.ensures ∙ not-false _ c.before.before.if1.false) in omega arith
+add-d c = let h = day_below _ _ _ (sym c.before.before.before.passes.ensures ∙ not-false _ c.before.before.if1.false) in omega arith
 
 mul-places : tie.Need-overflow-mul-places invariant-loop decreases-loop
 mul-places c = omega arith
@@ -50,7 +50,7 @@ add-t21 c =
     let q = c.before.before.before.before.before.before in
     let a = q.before.before.before.args in
     let e = sym q.before.before.passes.ensures ∙ not-false _ q.before.if1.false in
-    let h = reached-ahead a.t1 a.day a.minute e q.loop.ahead q.loop.from q.loop.invariant.2 q.loop.invariant.1 _ c.before.before.before.first-from.ensures c.before.begin.given.1 in
+    let h = reached_ahead a.t1 a.day a.minute e q.loop.ahead q.loop.from q.loop.invariant.2 q.loop.invariant.1 _ c.before.before.before.first-from.ensures c.before.begin.given.1 in
     omega (arith, h.1)
 
 sub-t22 : tie.Need-overflow-sub-t22 invariant-loop decreases-loop
@@ -58,14 +58,14 @@ sub-t22 c =
     let q = c.before.before.before.before.before.before in
     let a = q.before.before.before.args in
     let e = sym q.before.before.passes.ensures ∙ not-false _ q.before.if1.false in
-    (reached-ahead a.t1 a.day a.minute e q.loop.ahead q.loop.from q.loop.invariant.2 q.loop.invariant.1 _ c.before.before.before.first-from.ensures c.before.begin.given.1).0
+    (reached_ahead a.t1 a.day a.minute e q.loop.ahead q.loop.from q.loop.invariant.2 q.loop.invariant.1 _ c.before.before.before.first-from.ensures c.before.begin.given.1).0
 
 returns-2 : tie.Need-returns-2 invariant-loop decreases-loop
 returns-2 c =
     let q = c.before.before.before.before.before.before in
     let a = q.before.before.before.args in
     let e = sym q.before.before.passes.ensures ∙ not-false _ q.before.if1.false in
-    found-ahead a.t1 a.day a.minute e q.loop.ahead q.loop.from q.loop.invariant.2 q.loop.invariant.1 _ c.before.before.before.first-from.ensures (omega arith) c.before.begin.given.1
+    found_ahead a.t1 a.day a.minute e q.loop.ahead q.loop.from q.loop.invariant.2 q.loop.invariant.1 _ c.before.before.before.first-from.ensures (omega arith) c.before.begin.given.1
 
 add-ahead : tie.Need-overflow-add-ahead invariant-loop decreases-loop
 add-ahead c = omega arith
@@ -78,8 +78,8 @@ loop-again c =
     let q = c.before.before.before.before in
     let a = q.before.before.before.args in
     let e = sym q.before.before.passes.ensures ∙ not-false _ q.before.if1.false in
-    let m = minute-below a.t1 a.day a.minute e in
-    (omega arith, omega arith, none-ahead-of a.t1 a.day a.minute e q.loop.ahead q.loop.from q.loop.invariant.2 q.loop.invariant.1 _ c.before.first-from.ensures c.match.keys2)
+    let m = minute_below a.t1 a.day a.minute e in
+    (omega arith, omega arith, none_ahead_of a.t1 a.day a.minute e q.loop.ahead q.loop.from q.loop.invariant.2 q.loop.invariant.1 _ c.before.first-from.ensures c.match.keys2)
 
 returns-3 : tie.Need-returns-3 invariant-loop decreases-loop
 returns-3 c =

@@ -1,7 +1,7 @@
 -- `writer::next_digit` meets its contract: each kind of node. Assumes nothing.
 use mathlib.Core.Path.{◌≡◌, refl, sym, ap, ◌∙◌}
 use native.Mathlib.Omega.{arith}
-use Rattle.writer.proofs.Writing.{room_at, no_out, is_leaf, is_stem_lem, is_fork, second-small}
+use Rattle.writer.proofs.Writing.{room_at, no_out, is_leaf, is_stem_lem, is_fork, second_small}
 use borrow.Author.Rules.{rules}
 use Rattle.writer.proofs.next_digit.Statement.{statement}
 use Rattle.writer.proofs.next_digit.Tie as tie
@@ -52,7 +52,7 @@ sub-fork-digit-2 : tie.Need-overflow-sub-fork-digit-2
 sub-fork-digit-2 c = search rules
 
 fork-digit-requires : tie.Need-fork-digit-requires
-fork-digit-requires c κs = (omega arith, rw c.before.before.word2.ensures.0 (second-small c.before.before.before.before.before.before.before.before.requires.2 (omega arith) (λ e. c.before.before.before.if2.false (c.before.before.before.before.word.ensures.0 ∙ e)) (λ e. c.before.if3.false (c.before.before.word2.ensures.0 ∙ e))))
+fork-digit-requires c κs = (omega arith, rw c.before.before.word2.ensures.0 (second_small c.before.before.before.before.before.before.before.before.requires.2 (omega arith) (λ e. c.before.before.before.if2.false (c.before.before.before.before.word.ensures.0 ∙ e)) (λ e. c.before.if3.false (c.before.before.word2.ensures.0 ∙ e))))
 
 same-length-2 : tie.Need-same-length-2
 same-length-2 c = search rules

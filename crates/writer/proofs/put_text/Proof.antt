@@ -4,7 +4,7 @@ use borrow.Author.Rules.{rules}
 use native.Mathlib.Omega.{arith}
 use lib.ListN.{length-set}
 use Rattle.table.specs.Nodes.{tree_at}
-use Rattle.writer.proofs.Passes.{Puts, puts_begin, puts_room, puts-more, puts-end, walks_less}
+use Rattle.writer.proofs.Passes.{Puts, puts_begin, puts_room, puts_more, puts_end, walks_less}
 use Rattle.writer.proofs.put_text.Statement.{statement}
 use Rattle.writer.proofs.put_text.Tie as tie
 
@@ -36,13 +36,13 @@ same-length-2 : tie.Need-same-length-2 invariant-loop decreases-loop
 same-length-2 c = simp length-set c.before.before.before.before.before.before.loop.invariant.same_out
 
 returns : tie.Need-returns invariant-loop decreases-loop
-returns c = puts-end c.before.before.before.before.before.before.loop.invariant c.before.before.before.before.next_digit.new.1.1.0 c.before.before.before.before.next_digit.result c.before.before.before.before.next_digit.ensures c.match.keys2
+returns c = puts_end c.before.before.before.before.before.before.loop.invariant c.before.before.before.before.next_digit.new.1.1.0 c.before.before.before.before.next_digit.result c.before.before.before.before.next_digit.ensures c.match.keys2
 
 loop-less : tie.Need-loop-smaller invariant-loop decreases-loop
 loop-less c = walks_less c.before.before.before.before.before.before.before.loop.invariant.walks c.before.before.before.before.before.next_digit.new.1.1.0 c.before.before.before.before.before.next_digit.result c.before.before.before.before.before.next_digit.ensures c.enum_told.given.1
 
 loop-again : tie.Need-loop-preserved invariant-loop decreases-loop
-loop-again c = puts-more c.before.before.before.before.before.before.before.loop.invariant c.before.before.before.before.before.next_digit.new.1.1.0 c.before.before.before.before.before.next_digit.result c.before.before.before.before.before.next_digit.ensures c.enum_told.given.1 c.before.before.before.before.before.next_digit.auto.1.1.0
+loop-again c = puts_more c.before.before.before.before.before.before.before.loop.invariant c.before.before.before.before.before.next_digit.new.1.1.0 c.before.before.before.before.before.next_digit.result c.before.before.before.before.before.next_digit.ensures c.enum_told.given.1 c.before.before.before.before.before.next_digit.auto.1.1.0
 
 pub put_text_spec : {M : Type 1} → statement M
 put_text_spec =
