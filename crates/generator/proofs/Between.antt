@@ -34,10 +34,10 @@ unfolding pick
 pick_numbers a k draw h = ap (λ (j : ℕ). get_or (numbers_from a k) (draw % j) 0) (numbers_many a k) ∙ numbers_at a k (draw % k) (mod-lt draw h)
 
 -- the digits allowed, by the three tests
-abbrev by_tests_lem : Bool → Bool → Bool → List ℕ
-by_tests_lem x y z = cond x (48 ∷ cond y (49 ∷ cond z (50 ∷ []) []) (cond z (50 ∷ []) [])) (cond y (49 ∷ cond z (50 ∷ []) []) (cond z (50 ∷ []) []))
+abbrev by_tests : Bool → Bool → Bool → List ℕ
+by_tests x y z = cond x (48 ∷ cond y (49 ∷ cond z (50 ∷ []) []) (cond z (50 ∷ []) [])) (cond y (49 ∷ cond z (50 ∷ []) []) (cond z (50 ∷ []) []))
 
-by_tests_lem : (left n : ℕ) {x y z : Bool} → can_end left (some n) ≡ x → leb (suc n) left ≡ y → leb (suc (suc n)) left ≡ z → allowed left (some (suc n)) ≡ by_tests_lem x y z
+by_tests_lem : (left n : ℕ) {x y z : Bool} → can_end left (some n) ≡ x → leb (suc n) left ≡ y → leb (suc (suc n)) left ≡ z → allowed left (some (suc n)) ≡ by_tests x y z
 unfolding allowed those three_digits wanted_after can_end
 by_tests_lem left n p q r = rw (p, q, r)
 
@@ -46,7 +46,7 @@ abbrev pub Taken : ℕ → ℕ → ℕ → ℕ → Type 0
 Taken left w draw r = (48 + r ≡ pick (allowed left (some w)) draw) × (r ≤ 2)
 
 -- where those allowed are k from that of a branches on
-numbers_taken : (left n draw a k : ℕ) {x y z : Bool} → can_end left (some n) ≡ x → leb (suc n) left ≡ y → leb (suc (suc n)) left ≡ z → by_tests_lem x y z ≡ numbers_from (48 + a) k → 0 < k → a + k ≤ 3
+numbers_taken : (left n draw a k : ℕ) {x y z : Bool} → can_end left (some n) ≡ x → leb (suc n) left ≡ y → leb (suc (suc n)) left ≡ z → by_tests x y z ≡ numbers_from (48 + a) k → 0 < k → a + k ≤ 3
     → Taken left (suc n) draw (a + draw % k)
 numbers_taken left n draw a k p q r e h m =
     (sym (ap (λ (cs : List ℕ). pick cs draw) (by_tests_lem left n p q r ∙ e) ∙ pick_numbers (48 + a) k draw h ∙ omega arith), omega (arith, mod-lt draw h))

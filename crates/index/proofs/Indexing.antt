@@ -10,7 +10,7 @@ use lib.Seq.{get_or-set_same, get_or-set_other}
 use lib.Bits.{and_le_l, and_le_r}
 use lib.Dec.{eqb, ltb}
 use borrow.Author.Tests.{eqb-true, eqb-false, ltb-true, ltb-false}
-use Rattle.table.specs.Nodes.{first, second, has_words_lem, find}
+use Rattle.table.specs.Nodes.{first, second, has_words, find}
 use Rattle.table.proofs.Words.{told_apart, sound_node, find_none, find_has, same_first, same_second, has_words_lem}
 use Rattle.index.specs.Index.{home, Reached, Indexed, Ready, Vacant}
 use Rattle.index.specs.Code.{Sought}
@@ -80,13 +80,13 @@ pub record Passed (w : List ℕ) (u s : ℕ) (ix : List ℕ) (a b at : ℕ) : Ty
   pub below : at < s + u
   pub from : home a b s ≤ at
   pub full : (k : ℕ) → home a b s ≤ k → k < at → get_or ix k 0 ≡ 0 → ⊥
-  pub other : (k : ℕ) → home a b s ≤ k → k < at → has_words_lem w (get_or ix k 0) a b ≡ false
+  pub other : (k : ℕ) → home a b s ≤ k → k < at → has_words w (get_or ix k 0) a b ≡ false
 
 pub passed_none : (w : List ℕ) (u s : ℕ) (ix : List ℕ) (a b at : ℕ) → at ≡ home a b s → at < s → Passed w u s ix a b at
 passed_none w u s ix a b at e h =
     record { below = omega arith; from = omega arith; full = λ k l m q. omega arith; other = λ k l m. absurd (omega arith) }
 
-pub passed_more : (w : List ℕ) (u s : ℕ) (ix : List ℕ) (a b at : ℕ) → Indexed w u s ix → Passed w u s ix a b at → (get_or ix at 0 ≡ 0 → ⊥) → has_words_lem w (get_or ix at 0) a b ≡ false → Passed w u s ix a b (at + 1)
+pub passed_more : (w : List ℕ) (u s : ℕ) (ix : List ℕ) (a b at : ℕ) → Indexed w u s ix → Passed w u s ix a b at → (get_or ix at 0 ≡ 0 → ⊥) → has_words w (get_or ix at 0) a b ≡ false → Passed w u s ix a b (at + 1)
 passed_more w u s ix a b at i x n d =
     record {
       below = i.low at n;
@@ -99,7 +99,7 @@ passed_more w u s ix a b at i x n d =
     full k l m true y = rw (eqb-true k at y) n
     full k l m false y = let o : (k ≡ at → ⊥) = eqb-false k at y in x.full k l (omega arith)
 
-    other : (k : ℕ) → home a b s ≤ k → k < at + 1 → (y : Bool) → eqb k at ≡ y → has_words_lem w (get_or ix k 0) a b ≡ false
+    other : (k : ℕ) → home a b s ≤ k → k < at + 1 → (y : Bool) → eqb k at ≡ y → has_words w (get_or ix k 0) a b ≡ false
     other k l m true y = rw (eqb-true k at y) d
     other k l m false y = let o : (k ≡ at → ⊥) = eqb-false k at y in x.other k l (omega arith)
 
@@ -150,7 +150,7 @@ sought_leaf w u s ix a b x d e h =
     find_has w u a b 0 x.fine.unbroken h (omega (arith, k.first_in)) (omega (arith, k.second_in))
 
 module _ (w : List ℕ) (u s : ℕ) (ix : List ℕ) (a b at e : ℕ) (q : e ≡ get_or ix at 0) where
-  pub passed_entry : Indexed w u s ix → Passed w u s ix a b at → (e ≡ 0 → ⊥) → false ≡ has_words_lem w e a b → Passed w u s ix a b (at + 1)
+  pub passed_entry : Indexed w u s ix → Passed w u s ix a b at → (e ≡ 0 → ⊥) → false ≡ has_words w e a b → Passed w u s ix a b (at + 1)
   passed_entry x d n f = passed_more w u s ix a b at x d (rw q at n) (rw q at (sym f))
 
   pub sought_place : Ready w u s ix → (a ≡ 0 → ⊥) → Passed w u s ix a b at → e ≡ 0 → Sought w u s ix a b (Place at)
@@ -159,7 +159,7 @@ module _ (w : List ℕ) (u s : ℕ) (ix : List ℕ) (a b at e : ℕ) (q : e ≡ 
       let free : get_or ix at 0 ≡ 0 = sym q ∙ z in
       (none_met w u s ix a b at x n d free, record { below = d.below; from = d.from; free = free; run = d.full })
 
-  pub sought_node : Ready w u s ix → (e ≡ 0 → ⊥) → true ≡ has_words_lem w e a b → Sought w u s ix a b (Node e)
+  pub sought_node : Ready w u s ix → (e ≡ 0 → ⊥) → true ≡ has_words w e a b → Sought w u s ix a b (Node e)
   unfolding Sought
   sought_node x n f =
       find_has w u a b e x.fine.unbroken (rw (← q) at (x.indexed.inside at (rw q at n))) (same_first w e a b (sym f)) (same_second w e a b (sym f))

@@ -4,12 +4,12 @@ use mathlib.Core.Bool.{Bool, true, false}
 use mathlib.Core.Logic.{◌↔◌}
 use Rattle.calculus.specs.Tree.{Tree, leaf, stem, fork}
 use Rattle.table.proofs.Words.{zero_one, and_left, and_right}
-use Rattle.labelled.specs.Unlabel.{is_leaf_lem, is_stem, is_k, is_kk, is_k_of, is_label_branch, is_rule_branch, is_labelled}
+use Rattle.labelled.specs.Unlabel.{is_leaf, is_stem, is_k, is_kk, is_k_of, is_label_branch, is_rule_branch, is_labelled}
 use Rattle.labelled.specs.UnlabelClaims.{IsLabelled, labelled_earlier, IsKOf}
 
 -- what each test says of a tree that passes it
-is_leaf_lem : (x : Tree) → is_leaf_lem x ≡ true → x ≡ leaf
-unfolding is_leaf_lem
+is_leaf_lem : (x : Tree) → is_leaf x ≡ true → x ≡ leaf
+unfolding is_leaf
 is_leaf_lem leaf e = refl
 is_leaf_lem (stem p) e = zero_one (cc)
 is_leaf_lem (fork p q) e = zero_one (cc)
@@ -30,7 +30,7 @@ is_kk_lem : (x : Tree) → is_kk x ≡ true → x ≡ fork leaf (stem leaf)
 unfolding is_kk
 is_kk_lem leaf e = zero_one (cc)
 is_kk_lem (stem p) e = zero_one (cc)
-is_kk_lem (fork p q) e = ap₂ fork (is_leaf_lem p (and_left (is_leaf_lem p) (is_k q) e)) (is_k_lem q (and_right (is_leaf_lem p) (is_k q) e))
+is_kk_lem (fork p q) e = ap₂ fork (is_leaf_lem p (and_left (is_leaf p) (is_k q) e)) (is_k_lem q (and_right (is_leaf p) (is_k q) e))
 
 is_k_of_lem : (x : Tree) → is_k_of x ≡ true → IsKOf x
 unfolding is_k_of
@@ -63,7 +63,7 @@ is_labelled_lem (fork p q) e =
 
 -- "the labelled form" ([1]): the test is passed by the labelled trees, and by no others
 pub is_labelled_exact : (x : Tree) → (is_labelled x ≡ true) ↔ IsLabelled x
-unfolding is_labelled is_label_branch is_k_of is_rule_branch is_stem is_kk is_k is_leaf_lem
+unfolding is_labelled is_label_branch is_k_of is_rule_branch is_stem is_kk is_k is_leaf
 is_labelled_exact x = (is_labelled_lem x, λ h. rw h.form)
 
 -- a tree that is not labelled fails it

@@ -22,7 +22,7 @@ use Rattle.ternary.specs.Text.{text, tree_of}
 use Rattle.ternary.specs.Wanted.{wanted}
 use Rattle.ternary.proofs.OneText.{text_read, whole_text, length_text}
 use Rattle.ternary.proofs.Wanted.{wanted_whole}
-use Rattle.short_codes.specs.Values.{value_after, value, values_from, values_to, values, each_same_lem, is_values, padded}
+use Rattle.short_codes.specs.Values.{value_after, value, values_from, values_to, values, each_same, is_values, padded}
 use Rattle.short_codes.specs.Claims.{HoldsValues, EachPlace}
 use Rattle.short_codes.proofs.Numerals.{padded_more}
 use Rattle.short_codes.proofs.Listed.{ValueOf, listed_value, value_listed, from_ascends, longer_from, shorter_to}
@@ -110,12 +110,12 @@ each_place l h =
     }
 
 -- a list that passes the test is the table
-each_same_lem : (l m : List ℕ) → each_same_lem l m ≡ true → l ≡ m
-unfolding each_same_lem
+each_same_lem : (l m : List ℕ) → each_same l m ≡ true → l ≡ m
+unfolding each_same
 each_same_lem [] [] e = refl
 each_same_lem [] (y ∷ m) e = zero_one (cc)
 each_same_lem (x ∷ l) [] e = zero_one (cc)
-each_same_lem (x ∷ l) (y ∷ m) e = ap₂ (λ (a : ℕ) (r : List ℕ). a ∷ r) (eqb-true x y (and_left (eqb x y) (each_same_lem l m) e)) (each_same_lem l m (and_right (eqb x y) (each_same_lem l m) e))
+each_same_lem (x ∷ l) (y ∷ m) e = ap₂ (λ (a : ℕ) (r : List ℕ). a ∷ r) (eqb-true x y (and_left (eqb x y) (each_same l m) e)) (each_same_lem l m (and_right (eqb x y) (each_same l m) e))
 
 -- The lemma that turns the test into the rule: a list that passes is the table, it holds the values and nothing else, ascending, and so at each place.
 pub tested_values : (l : List ℕ) → is_values l ≡ true → l ≡ values

@@ -10,7 +10,7 @@ use lib.ListN.{length, get_or, set, take, drop, replicate, length-append, length
 use lib.Seq.{drop-length, drop-cons, set_at, get_or-set_same, get_or-set_other, get_or-take, get_or-drop, get_or-append-add, length-take-le}
 use lib.Dec.{ltb, leb, eqb}
 use borrow.Author.Tests.{ltb-false, eqb-true, eqb-false, le-ltb, eq-eqb, ne_eqb, not-true}
-use Rattle.table.specs.Nodes.{first, second, broken, has_words_lem, find, is_none, sound, cleared}
+use Rattle.table.specs.Nodes.{first, second, broken, has_words, find, is_none, sound, cleared}
 use Rattle.table.specs.Claims.{Unbroken}
 
 -- What follows where `cc` finds two constructors said to be equal: it proves 0 ≡ 1 from them.
@@ -41,25 +41,25 @@ pub told_apart : {A : Type 0} {x : Bool} → x ≡ true → x ≡ false → A
 told_apart p q = zero_one (cc)
 
 -- the two words of a node
-pub same_first : (w : List ℕ) (i a b : ℕ) → has_words_lem w i a b ≡ true → first w i ≡ a
-unfolding has_words_lem
+pub same_first : (w : List ℕ) (i a b : ℕ) → has_words w i a b ≡ true → first w i ≡ a
+unfolding has_words
 same_first w i a b e = eqb-true (first w i) a (and_left (eqb (first w i) a) (eqb (second w i) b) e)
 
-pub same_second : (w : List ℕ) (i a b : ℕ) → has_words_lem w i a b ≡ true → second w i ≡ b
-unfolding has_words_lem
+pub same_second : (w : List ℕ) (i a b : ℕ) → has_words w i a b ≡ true → second w i ≡ b
+unfolding has_words
 same_second w i a b e = eqb-true (second w i) b (and_right (eqb (first w i) a) (eqb (second w i) b) e)
 
-pub has_words_lem : (w : List ℕ) (i a b : ℕ) → first w i ≡ a → second w i ≡ b → has_words_lem w i a b ≡ true
-unfolding has_words_lem
+pub has_words_lem : (w : List ℕ) (i a b : ℕ) → first w i ≡ a → second w i ≡ b → has_words w i a b ≡ true
+unfolding has_words
 has_words_lem w i a b p q = rw (eq-eqb (first w i) a p, eq-eqb (second w i) b q)
 
 -- where none has the words, none is found
 pub find_none : (w : List ℕ) (u a b : ℕ) → ((i : ℕ) → i < u → first w i ≡ a → second w i ≡ b → ⊥) → find w u a b ≡ none
 unfolding find
 find_none w zero a b h = refl
-find_none w (suc k) a b h = go (has_words_lem w k a b) refl (find_none w k a b (λ i l. h i (omega arith)))
+find_none w (suc k) a b h = go (has_words w k a b) refl (find_none w k a b (λ i l. h i (omega arith)))
   where
-    go : (z : Bool) → has_words_lem w k a b ≡ z → find w k a b ≡ none → cond z (some k) (find w k a b) ≡ none
+    go : (z : Bool) → has_words w k a b ≡ z → find w k a b ≡ none → cond z (some k) (find w k a b) ≡ none
     go true e r = absurd (h k (omega arith) (same_first w k a b e) (same_second w k a b e))
     go false e r = r
 
@@ -72,9 +72,9 @@ pub record Finds (w : List ℕ) (u a b n : ℕ) : Type 0 where
 pub finds : (w : List ℕ) (u a b n : ℕ) → find w u a b ≡ some n → Finds w u a b n
 unfolding find
 finds w zero a b n e = zero_one (cc)
-finds w (suc k) a b n e = go (has_words_lem w k a b) refl e (λ f. finds w k a b n f)
+finds w (suc k) a b n e = go (has_words w k a b) refl e (λ f. finds w k a b n f)
   where
-    go : (z : Bool) → has_words_lem w k a b ≡ z → cond z (some k) (find w k a b) ≡ some n → (find w k a b ≡ some n → Finds w k a b n) → Finds w (suc k) a b n
+    go : (z : Bool) → has_words w k a b ≡ z → cond z (some k) (find w k a b) ≡ some n → (find w k a b ≡ some n → Finds w k a b n) → Finds w (suc k) a b n
     go true s f r =
         let q : k ≡ n = cc in
         rw (← q) (record { inside = omega arith; first_is = same_first w k a b s; second_is = same_second w k a b s })
@@ -86,9 +86,9 @@ finds w (suc k) a b n e = go (has_words_lem w k a b) refl e (λ f. finds w k a b
 pub none_has : (w : List ℕ) (u a b : ℕ) → find w u a b ≡ none → (i : ℕ) → i < u → first w i ≡ a → second w i ≡ b → ⊥
 unfolding find
 none_has w zero a b e i h p q = omega arith
-none_has w (suc k) a b e i h p q = go (has_words_lem w k a b) refl e (λ f l. none_has w k a b f i l p q)
+none_has w (suc k) a b e i h p q = go (has_words w k a b) refl e (λ f l. none_has w k a b f i l p q)
   where
-    go : (z : Bool) → has_words_lem w k a b ≡ z → cond z (some k) (find w k a b) ≡ none → (find w k a b ≡ none → i < k → ⊥) → ⊥
+    go : (z : Bool) → has_words w k a b ≡ z → cond z (some k) (find w k a b) ≡ none → (find w k a b ≡ none → i < k → ⊥) → ⊥
     go true s f r = zero_one (cc)
     go false s f r = at (eqb i k) refl
       where
@@ -103,7 +103,7 @@ is_none_lem (some n) e = zero_one (cc)
 
 -- the node found in two tables that agree on their words
 pub find_same : (w z : List ℕ) (u a b : ℕ) → ((i : ℕ) → i < u * 2 → get_or z i 0 ≡ get_or w i 0) → find z u a b ≡ find w u a b
-unfolding find has_words_lem
+unfolding find has_words
 find_same w z zero a b h = refl
 find_same w z (suc k) a b h =
     let p : get_or z (k * 2) 0 ≡ get_or w (k * 2) 0 = h (k * 2) (omega arith) in
