@@ -1,12 +1,12 @@
 -- `whole_text::scan` meets its contract. The loop's invariant: after the digits before i `wanted` trees are wanted, and `most` at the most before
 -- one of them. Assumes nothing.
 use Prim.Native.Nat.{◌-◌, max}
-use mathlib.Core.Logic.{⊎_elim}
 use mathlib.Core.Path.{◌≡◌}
 use native.Mathlib.Omega.{arith}
 use Rattle.whole_text.specs.Code.{wanted_of, ScanSays}
 use Rattle.whole_text.proofs.Scanning.{scan_start, scan_few, scan_digit, scan_broken, scan_whole, scan_wants}
 use Rattle.whole_text.proofs.scan.Goals as goal
+use Rattle.whole_text.proofs.scan.Goals.{then-most-wanted, else-most-wanted}
 
 pub loop-i-init : goal.loop-i-init
 loop-i-init c = scan_start _
@@ -26,7 +26,7 @@ pub loop-i-preserved : goal.loop-i-preserved
 unfolding wanted_of
 loop-i-preserved c =
     let m : c.if-most-wanted.most ≡ max c.loop-i.most c.loop-i.wanted =
-    ⊎_elim (λ w. omega (arith, w.0.taken, w.1)) (λ w. omega (arith, w.0.left, w.1)) c.if-most-wanted.branch in
+    elim c.if-most-wanted.branch [ then-most-wanted w ↦ omega arith | else-most-wanted w ↦ omega arith ] in
     scan_digit c.loop-i.invariant c.loop-i-test.true _ _ (rw c.in-Trees.is at c.wanted_after.ensures) m
 
 pub returns-then-wanted-eq0 : goal.returns-then-wanted-eq0

@@ -8,16 +8,8 @@ use Rattle.ternary.proofs.Wanted.{after_digit}
 use Rattle.whole_text.specs.Code.{wanted_of}
 use Rattle.whole_text.proofs.Scanning.{after_other}
 use borrow.Author.Rules.{rules}
-use Rattle.whole_text.proofs.wanted_after.Reads as reads
-use Rattle.whole_text.proofs.wanted_after.Lts as lts
 use Rattle.whole_text.proofs.wanted_after.Goals as goal
-
--- the three cases: the byte is the digit of so many branches
-digit : (c : lts.At-match-branch reads.Pre reads.Post) → (c.before.before.args.c ≡ 48 + c.match.branches) × (c.match.branches ≤ 2)
-digit c =
-    ⊎_elim (λ w. (omega (arith, w.0.keys1, w.1), omega (arith, w.1)))
-    (⊎_elim (λ w. (omega (arith, w.0.keys2, w.1), omega (arith, w.1))) (λ w. (omega (arith, w.0.keys3, w.1), omega (arith, w.1))))
-    c.match.branch
+use Rattle.whole_text.proofs.wanted_after.Goals.{in-48, in-49, in-50}
 
 pub returns-then-n-eq0 : goal.returns-then-n-eq0
 unfolding wanted_of wanted_after
@@ -25,11 +17,15 @@ returns-then-n-eq0 c = rw c.if-n-eq0.true
 
 pub returns-in_default : goal.returns-in_default
 unfolding wanted_of
-returns-in_default c = after_other _ _ c.in_default.in_default-own.rest.0.0.1 c.in_default.in_default-own.rest.0.1 c.in_default.in_default-own.rest.1
+returns-in_default c = after_other _ _ (λ e. omega arith) (λ e. omega arith) (λ e. omega arith)
 
 pub overflow_add-result : goal.overflow_add-result
-overflow_add-result c = let d = digit c in search rules
+overflow_add-result c =
+    elim c.match-c.branch [ in-48 w ↦ omega arith | in-49 w ↦ omega arith | in-50 w ↦ omega arith ]
 
 pub returns : goal.returns
 unfolding wanted_of
-returns c = let d = digit c in after_digit _ _ _ c.if-n-eq0.false d.0 d.1
+returns c =
+    let d : (c.args.c ≡ 48 + c.match-c.branches) × (c.match-c.branches ≤ 2) =
+    elim c.match-c.branch [ in-48 w ↦ (omega arith, omega arith) | in-49 w ↦ (omega arith, omega arith) | in-50 w ↦ (omega arith, omega arith) ] in
+    after_digit _ _ _ c.if-n-eq0.false d.0 d.1
