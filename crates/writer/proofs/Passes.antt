@@ -142,17 +142,17 @@ module _ {w : List ℕ} {u : ℕ} {s₀ s : List ℕ} {t : Tree} {o₀ o : List 
         }
 
     -- the last digit
-    last : Run.OneOf (1 ∷ 2 ∷ 3 ∷ []) (Declared.tag_of Rattle.writer.specs.contracts.Then.the_type d.«then») → texts (p.walks.x ∷ p.walks.xs) ≡ d.value ∷ []
+    last : (d.«then» ≡ More → ⊥) → texts (p.walks.x ∷ p.walks.xs) ≡ d.value ∷ []
     unfolding ThenSays
-    last = go d.«then» refl
+    last h = go d.«then» refl
       where
-        go : (e : Then) → d.«then» ≡ e → Run.OneOf (1 ∷ 2 ∷ 3 ∷ []) (Declared.tag_of Rattle.writer.specs.contracts.Then.the_type e) → texts (p.walks.x ∷ p.walks.xs) ≡ d.value ∷ []
-        go More q h = absurd (⊎_elim (λ a. omega arith) (λ b. ⊎_elim (λ a. omega arith) (λ a. omega arith) b) h)
-        go End q h = (said p.walks z d says End q).1
-        go NoOut q h = fits_not (walks_out p.walks z d says q) p.fits
-        go NoFrame q h = fits_not (walks_full p.walks z d says q) p.fits
+        go : (e : Then) → d.«then» ≡ e → texts (p.walks.x ∷ p.walks.xs) ≡ d.value ∷ []
+        go More q = absurd (h q)
+        go End q = (said p.walks z d says End q).1
+        go NoOut q = fits_not (walks_out p.walks z d says q) p.fits
+        go NoFrame q = fits_not (walks_full p.walks z d says q) p.fits
 
-    pub puts_end : Run.OneOf (1 ∷ 2 ∷ 3 ∷ []) (Declared.tag_of Rattle.writer.specs.contracts.Then.the_type d.«then»)
+    pub puts_end : (d.«then» ≡ More → ⊥)
         → (done + 1 ≡ length (text t)) × (set o done d.value ≡ text t ++ drop (done + 1) o₀)
     puts_end h =
         let e : text t ≡ take (done + 1) (set o done d.value) = longer [] (last h) ∙ append-nil _ in
