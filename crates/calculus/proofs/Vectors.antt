@@ -1,13 +1,11 @@
 -- Worked examples of the definitions: what no theorem pins, and the example of document 01's section on the two runs. Assumes nothing.
-use Prim.Native.Nat.{ℕ}
 use mathlib.Core.Path.{◌≡◌, refl}
-use mathlib.Core.List.{List, [], ◌∷◌}
-use mathlib.Core.Option.{Option, none, some}
-use Rattle.calculus.specs.Tree.{Tree, leaf, stem, fork}
+use mathlib.Core.List.{[], ◌∷◌}
+use mathlib.Core.Option.{some}
+use Rattle.calculus.specs.Tree.{leaf, stem, fork}
 use Rattle.calculus.specs.Uses.{counts, no_uses, steps, new_nodes}
 use Rattle.calculus.specs.Rules.{Apply, by_leaf, by_stem, by_drop, by_spread, by_triage, of_tree, of_app, at_end, and_next}
 use Rattle.calculus.specs.Term.{Term, app, abs, var, parameters, body_under}
-use Rattle.calculus.specs.Term
 use Rattle.calculus.specs.Bytes.{bytes, abstraction, application, argument, parse, whole, rule}
 use Rattle.calculus.specs.Abstraction.{bracket, translate, grown, tree_of, rule_tree, leaves, nearest}
 use Rattle.calculus.specs.Runs.{body, fill, Direct, Translated, L, X, difference}

@@ -1,5 +1,5 @@
 -- The two runs of demand 3, without limits. Assumes nothing: these are definitions.
-use Rattle.std.specs.Prelude.{ℕ, ◌+◌, ◌*◌, ◌-◌, List, [], ◌∷◌, reverse, length, get_or}
+use Rattle.std.specs.Prelude.{ℕ, ◌+◌, ◌*◌, ◌-◌, List, reverse, length, get_or}
 use Rattle.calculus.specs.Tree.{Tree}
 use Rattle.calculus.specs.Uses.{InSteps}
 use Rattle.calculus.specs.Rules.{Closed, tree, Eval, ApplyAll}

@@ -34,7 +34,7 @@ use Rattle.results.specs.Terms.{node_term, frames_term, state_term, turn_term, t
 use Rattle.results.specs.Claims.{RuleIs, UseIs, StandsOnPaper}
 
 -- an equation under frames
-frames_reduce : {e : Equation} {u v : Combination} (t : Table) (fs : List Frame) → Reduces e u v → Reduces e (frames_term t fs u) (frames_term t fs v)
+frames_reduce : {e : Equation} (t : Table) (fs : List Frame) {u v : Combination} → Reduces e u v → Reduces e (frames_term t fs u) (frames_term t fs v)
 unfolding frames_term
 frames_reduce t [] r = r
 frames_reduce t (SpreadFirst p n ∷ fs) r = frames_reduce t fs (in_function r)

@@ -83,6 +83,8 @@ one (suc k) s h = go (turn 3 s) h (one k)
   where
     go : (x : Turn) → GoesOn (after (uses 3 (suc k)) x) → ((z : State) → GoesOn (uses 3 (suc k) z) → GoesOn (uses 3 k z)) → GoesOn (after (uses 3 k) x)
     go (more z) h r = r z h
+    go (done _ _) h r = elim h [ ]
+    go (stop _ _) h r = elim h [ ]
 
 two : (k : ℕ) (s : State) → GoesOn (uses 3 (suc (suc k)) s) → GoesOn (uses 3 k s)
 two k s h = one k s (one (suc k) s h)
@@ -111,3 +113,5 @@ busy limit h = rw (le-leb limit 1000000 h) (go (uses 3 limit (begin words 9 8 4)
   where
     go : (x : Turn) → GoesOn x → (machine-apply.settle 9 (replicate 9 5) x).answer ≡ Refused Steps
     go (more z) g = refl
+    go (done _ _) g = elim g [ ]
+    go (stop _ _) g = elim g [ ]

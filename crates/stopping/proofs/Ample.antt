@@ -94,7 +94,7 @@ lay_like {t = t} {z = z} l (fork p q) e =
     let a = and_got (lay t q) (λ m. and_then (lay m.table p) (λ n. make n.table (n.node + 1) (m.node + 1))) e in
     let b = lay_like l q a.first_is in
     let f = and_got (lay a.first.table p) (λ n. make n.table (n.node + 1) (a.first.node + 1)) a.rest in
-    let g = lay_like b.like p f.first_is in
+    let g = lay_like {t = a.first.table} {z = b.placed.table} b.like p f.first_is in
     let c = make_like g.like (f.first.node + 1) (a.first.node + 1) f.rest in
     record {
       placed = c.placed;

@@ -59,7 +59,7 @@ reads_forward s h o (and_read {z = z} {l = t} {x = x} {m = m} {ns = ns} is enoug
     (a.0, a.1, a.2, rw b a.3)
 
 -- where applications are completed, what follows goes on with the arguments left, at their place
-pub reached_forward : (s o : List ℕ) {limit : ℕ} {z z' : Table} {v v' : ℕ} {ns ns' : List ℕ} {k : Uses} → Reached (frames s) limit z v ns z' v' ns' k → (y : List ℕ) → SameLength s y
+pub reached_forward : (s o : List ℕ) {limit : ℕ} {z : Table} {v : ℕ} {ns : List ℕ} {z' : Table} {v' : ℕ} {ns' : List ℕ} {k : Uses} → Reached (frames s) limit z v ns z' v' ns' k → (y : List ℕ) → SameLength s y
     → (i : ℕ) × (i + length ns' ≡ length ns + 1) × (x : List ℕ) × SameLength s x
     × (tell_applies 1 ns limit z.words z.used y o v no_uses ≡ tell_applies i ns' limit z'.words z'.used x o v' k)
 unfolding tell_applies after_ended apply_ended ended

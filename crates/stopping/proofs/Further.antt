@@ -62,6 +62,7 @@ far_on all n y k g = go (turn all y) g (turn_steps all y)
     go : (x : Turn) → Goes x → Counted (steps y.uses) 1 x → Far k (k + steps y.uses) (after (uses all n) x)
     go (more z) (goes_on) c = on z (uses all n z) c (uses_steps all n z)
     go (done p m) (gives) c = omega (arith, c.0)
+    go (stop _ _) g c = elim g [ ]
 
 module _ {w s o l : List ℕ} {p : Packet} {t : Term} {args : List Tree} (checked : Checked w s o l p t args) (e : Refusal) (place j : ℕ) (c : Kind)
     {r : Placed} {z : Table} {ns : List ℕ} (rule_laid : TranslateHad w s t r) (arguments_read : ReadsHad s r.table p.arguments z ns) where

@@ -63,7 +63,7 @@ record ReachedLike (d all limit : ℕ) (x : Table) (v : ℕ) (ns : List ℕ) (z 
   function_in : v' < z.used
   inside : AllIn z.used ns'
 
-reached_like : {d all limit more_frames more_steps : ℕ} → all ≤ more_frames → limit ≤ more_steps → {z z' : Table} {v v' : ℕ} {ns ns' : List ℕ} {k : Uses}
+reached_like : {d all limit more_frames more_steps : ℕ} → all ≤ more_frames → limit ≤ more_steps → {z : Table} {v : ℕ} {ns : List ℕ} {z' : Table} {v' : ℕ} {ns' : List ℕ} {k : Uses}
     → Reached all limit z v ns z' v' ns' k → Sound z → v < z.used → AllIn z.used ns → {x : Table} → Like d z x → ReachedLike d more_frames more_steps x v ns z' v' ns' k
 reached_like h q at_first f i a {x} l = record { table = x; reached = at_first; like = l; fine = f; function_in = i; inside = a }
 reached_like {d} {all} {limit} {more_frames} {more_steps} h q {v = first} {ns = args} (and_applied {z' = z} {v' = v} {n = n} {ns' = ns} {k = k} {j = j} {m = m} r e) f i a {x} l =

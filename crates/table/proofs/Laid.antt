@@ -1,12 +1,12 @@
 -- What a tree laid out gives, and what it lacks: the laws that Read's and Translate's outcomes share. Assumes nothing.
-use Prim.Native.Nat.{ℕ, ◌+◌, ◌-◌, ◌*◌, ◌≤◌, ◌<◌}
+use Prim.Native.Nat.{ℕ, ◌*◌, ◌≤◌, ◌<◌}
 use mathlib.Core.Path.{◌≡◌, refl, sym, ap, ◌∙◌, subst}
-use mathlib.Core.Bool.{Bool, true, false, cond}
+use mathlib.Core.Bool.{Bool, true, false}
 use mathlib.Core.List.{List}
 use native.Mathlib.Omega.{arith}
 use lib.Dec.{ltb}
 use borrow.Author.Tests.{lt-ltb, le-ltb, ltb-true, ltb-false}
-use Rattle.calculus.specs.Tree.{Tree, size}
+use Rattle.calculus.specs.Tree.{Tree}
 use Rattle.table.specs.Nodes.{Table, Placed, Making, got, full, capacity, Sound, lay, cleared}
 use Rattle.table.specs.Outcome.{Outcome, whole, frames, zeros, stopped, placed, settled, laid, laid_within}
 use Rattle.table.specs.declared.Refusal.{Refusal}

@@ -1,17 +1,16 @@
 -- Laws of nodes wanted one at a time and of trees laid out. Assumes nothing.
-use Prim.Native.Nat.{ℕ, zero, suc, ◌+◌, ◌-◌, ◌*◌, ◌/◌, ◌≤◌, ◌<◌}
+use Prim.Native.Nat.{ℕ, ◌+◌, ◌≤◌, ◌<◌}
 use mathlib.Core.Path.{◌≡◌, refl, sym, ap, ap₂, ◌∙◌, subst}
 use mathlib.Core.Bool.{Bool, true, false, cond}
-use mathlib.Core.List.{List}
 use mathlib.Core.Option.{Option, none, some}
 use mathlib.Core.Logic.{◌↔◌}
 use native.Mathlib.Omega.{arith}
 use native.Mathlib.Numerals.{add-one}
-use lib.ListN.{length, get_or}
+use lib.ListN.{length}
 use lib.Dec.{ltb}
 use borrow.Author.Tests.{ltb-true, ltb-false, lt-ltb, le-ltb}
 use Rattle.calculus.specs.Tree.{Tree, leaf, stem, fork, size}
-use Rattle.table.specs.Nodes.{Table, Placed, Making, got, full, capacity, first, second, find, sound, Sound, branches, tree_at, new_node, or_new, make, and_then, lay}
+use Rattle.table.specs.Nodes.{Table, Placed, Making, got, full, capacity, find, sound, Sound, branches, tree_at, new_node, or_new, make, and_then, lay}
 use Rattle.table.specs.Claims.{Kept, Extends, Places, Has, Makes, Wants, Lacking, Filled, Unbroken}
 use Rattle.table.specs.Claims.Makes.{found, made, no_place}
 use Rattle.table.specs.Claims.Wants.{the_leaf, in_stem, the_stem, in_second, in_first, the_fork}

@@ -1,7 +1,7 @@
 -- Each tree once: in a sound table two node numbers are equal exactly when their trees are; a tree that is there is found; what refusal 2 finds.
 -- Assumes nothing.
-use Prim.Native.Nat.{ℕ, zero, suc, ◌+◌, ◌-◌, ◌*◌, ◌≤◌, ◌<◌}
-use mathlib.Core.Path.{◌≡◌, refl, sym, ap, ap₂, ◌∙◌, subst}
+use Prim.Native.Nat.{ℕ, zero, suc, ◌+◌, ◌<◌}
+use mathlib.Core.Path.{◌≡◌, refl, sym, ap, ◌∙◌}
 use mathlib.Core.Bool.{Bool, true, false, not, ◌&&◌}
 use mathlib.Core.List.{List}
 use mathlib.Core.Option.{Option, none, some}
@@ -9,10 +9,10 @@ use mathlib.Core.Logic.{◌↔◌}
 use native.Mathlib.Omega.{arith}
 use native.Mathlib.Numerals.{add-one}
 use Rattle.calculus.specs.Tree.{Tree, leaf, stem, fork}
-use Rattle.table.specs.Nodes.{Table, Placed, Making, got, capacity, first, second, broken, find, is_none, sound, Sound, branches, tree_at, make, and_then, lay}
+use Rattle.table.specs.Nodes.{Table, got, first, second, broken, find, is_none, sound, Sound, branches, tree_at, make, and_then, lay}
 use Rattle.table.specs.Claims.{Has, Flawed, Unbroken}
 use Rattle.table.specs.Claims.Flawed.{broken_node, equal_nodes}
-use Rattle.table.proofs.Words.{zero_one, told_apart, finds, none_has, find_has, same_words, sound_node, sound_below, last_sound, sound_more}
+use Rattle.table.proofs.Words.{zero_one, told_apart, finds, find_has, same_words, sound_node, sound_below}
 use Rattle.table.proofs.Trees.{tree_node}
 use Rattle.table.proofs.Making.{make_found, then_got}
 

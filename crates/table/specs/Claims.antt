@@ -1,5 +1,5 @@
 -- What theorems claim of a table that an operation changed, of a tree that is laid out, and of the checks at entry. Assumes nothing: these are definitions.
-use Rattle.std.specs.Prelude.{ℕ, ◌+◌, ◌-◌, ◌*◌, ◌≤◌, ◌<◌, ◌≡◌, Bool, true, false, ◌&&◌, List, length, get_or}
+use Rattle.std.specs.Prelude.{ℕ, ◌+◌, ◌*◌, ◌≤◌, ◌<◌, ◌≡◌, Bool, true, false, ◌&&◌, List, length, get_or}
 use Rattle.std.proofs.Math.Option.{none, some}
 use Rattle.calculus.specs.Tree.{Tree, leaf, stem, fork, size}
 use Rattle.table.specs.Nodes.{Table, Placed, Making, got, full, capacity, first, second, broken, find, Sound, tree_at, new_node, lay}

@@ -1,7 +1,7 @@
 -- Laws of Write for its callers: the two kinds of its outcome, each refusal exactly on its condition, and what it wrote. Assumes nothing.
 use Prim.Native.Nat.{◌<◌, ℕ, ◌-◌}
 use mathlib.Core.Path.{◌≡◌, refl, sym, ap}
-use mathlib.Core.Bool.{Bool, true, false, cond, ◌&&◌}
+use mathlib.Core.Bool.{Bool, true, false, cond}
 use mathlib.Core.List.{List}
 use mathlib.Core.Option.{Option, none, some}
 use native.Mathlib.Omega.{arith}
@@ -10,14 +10,14 @@ use lib.Seq.{take_at}
 use lib.Dec.{ltb, leb}
 use borrow.Author.Tests.{ltb-true, ltb-false, leb-true, lt-ltb, le-ltb}
 use Rattle.calculus.specs.Tree.{Tree, size}
-use Rattle.table.specs.Nodes.{sound, tree_at}
-use Rattle.table.specs.Outcome.{Outcome, Entered, whole_out, fits, frames, zeros, at_entry, unless}
+use Rattle.table.specs.Nodes.{tree_at}
+use Rattle.table.specs.Outcome.{Outcome, Entered, whole_out, frames, zeros, at_entry, unless}
 use Rattle.table.specs.Refusal.{number, clears}
 use Rattle.table.specs.declared.Refusal.{Refusal}
 use Rattle.table.specs.declared.Refusal.TheVariants.{Node, Frames, Out}
 use Rattle.table.proofs.Entry.{entered, enters, entry_lacks, lacks_entry, entry_keeps}
 use Rattle.ternary.specs.Text.{text}
-use Rattle.ternary.specs.Write.{Room, left, lacks, digits, written, write_tree, write}
+use Rattle.ternary.specs.Write.{Room, lacks, digits, written, write_tree, write}
 use Rattle.ternary.specs.declared.Written.{Written}
 use Rattle.ternary.specs.declared.Written.TheVariants.{Digits, Refused}
 use Rattle.ternary.specs.Held.{NoFrame, OutFull, Spent, enough, no_out, no_frame}

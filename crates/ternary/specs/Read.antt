@@ -1,5 +1,5 @@
 -- The whole outcome of Read (Operations, Read). Assumes nothing: these are definitions.
-use Rattle.std.specs.Prelude.{ℕ, Bool, true, false, cond, List, [], ◌∷◌, length, leb}
+use Rattle.std.specs.Prelude.{ℕ, Bool, true, false, cond, List, length, leb}
 use Rattle.std.proofs.Math.Option.{Option, none, some}
 use Rattle.calculus.specs.Tree.{Tree}
 use Rattle.table.specs.Outcome.{Outcome, whole, at_entry, unless, laid_within}

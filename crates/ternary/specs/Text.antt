@@ -1,5 +1,5 @@
 -- Ternary text: the text of a tree, and the trees pending while digits are taken last to first. Assumes nothing: these are definitions.
-use Rattle.std.specs.Prelude.{ℕ, max, Bool, true, false, cond, List, [], ◌∷◌, ◌++◌, length, leb, eqb}
+use Rattle.std.specs.Prelude.{ℕ, max, cond, List, [], ◌∷◌, ◌++◌, length, eqb}
 use Rattle.std.proofs.Math.Option.{Option, none, some}
 use Rattle.calculus.specs.Tree.{Tree, leaf, stem, fork}
 

@@ -1,5 +1,5 @@
 -- The whole outcome of Write (Operations, Write). Assumes nothing: these are definitions.
-use Rattle.std.specs.Prelude.{ℕ, zero, suc, Bool, true, false, cond, List, [], ◌∷◌, ◌++◌, length, drop, ltb, leb}
+use Rattle.std.specs.Prelude.{ℕ, zero, suc, cond, List, ◌++◌, length, drop, ltb, leb}
 use Rattle.calculus.specs.Tree.{Tree, leaf, stem, fork}
 use Rattle.table.specs.Nodes.{tree_at}
 use Rattle.table.specs.Outcome.{Outcome, whole_out, frames, zeros, at_entry, unless}
