@@ -1,0 +1,54 @@
+-- `operators::after` meets its contract: each joint. Assumes nothing.
+use native.Mathlib.Omega.{arith}
+use mathlib.Core.Path.{subst}
+use Rattle.operators.specs.Code.{JointAt, Afters}
+use Rattle.operators.proofs.Waits.{put_end, close_end, step_operand, step_and, step_or, step_arrow, step_end}
+use Rattle.operators.proofs.after.Goals as goal
+
+pub close-e-requires : goal.close-e-requires
+close-e-requires c = omega (arith, c.requires.room, c.requires.space, c.requires.within, put_end _ _ _ c.args.waiting.apps 0 _ c.put-applied.ensures, c.put-applied.auto.post)
+
+pub begin-requires : goal.begin-requires
+begin-requires c = let j = (subst (JointAt c.args.words.now c.args.at) c.in-And.is c.joint_at.ensures) in omega (arith, j.1)
+
+pub close-e-requires-in-Or : goal.close-e-requires-in-Or
+close-e-requires-in-Or c = omega (arith, c.requires.room, c.requires.space, c.requires.within, put_end _ _ _ c.args.waiting.apps 0 _ c.put-applied.ensures, c.put-applied.auto.post)
+
+pub begin-requires-in-Or : goal.begin-requires-in-Or
+begin-requires-in-Or c = let j = (subst (JointAt c.args.words.now c.args.at) c.in-Or.is c.joint_at.ensures) in omega (arith, j.1)
+
+pub close-e-requires-in-Arrow : goal.close-e-requires-in-Arrow
+close-e-requires-in-Arrow c = omega (arith, c.requires.room, c.requires.space, c.requires.within, put_end _ _ _ c.args.waiting.apps 0 _ c.put-applied.ensures, c.put-applied.auto.post)
+
+pub begin-requires-in-Arrow : goal.begin-requires-in-Arrow
+begin-requires-in-Arrow c = let j = (subst (JointAt c.args.words.now c.args.at) c.in-Arrow.is c.joint_at.ensures) in omega (arith, j.1)
+
+pub close-e-requires-in-End : goal.close-e-requires-in-End
+close-e-requires-in-End c = omega (arith, c.requires.room, c.requires.space, c.requires.within, put_end _ _ _ c.args.waiting.apps 0 _ c.put-applied.ensures, c.put-applied.auto.post)
+
+pub put-requires : goal.put-requires
+put-requires c = omega (arith, c.requires.room, c.requires.space, c.requires.within, put_end _ _ _ c.args.waiting.apps 0 _ c.put-applied.ensures, c.put-applied.auto.post, close_end _ _ _ c.args.waiting.nots c.args.waiting.ands c.args.waiting.ors _ c.close-e-in-End.ensures, c.close-e-in-End.auto.post)
+
+pub returns-in-Operand : goal.returns-in-Operand
+unfolding Afters
+returns-in-Operand c = λ d Γ p f a xs n h. step_operand d Γ p f a xs _ _ _ _ _ c.requires n h _ _ c.put-applied.ensures (subst (JointAt c.args.words.now c.args.at) c.in-Operand.is c.joint_at.ensures)
+
+pub returns-in-And : goal.returns-in-And
+unfolding Afters
+returns-in-And c = λ d Γ p f a xs n h. step_and d Γ p f a xs _ _ _ _ _ c.requires n h _ _ c.put-applied.ensures (subst (JointAt c.args.words.now c.args.at) c.in-And.is c.joint_at.ensures) _ _ c.close-e.ensures _ c.begin.ensures
+
+pub returns-in-Or : goal.returns-in-Or
+unfolding Afters
+returns-in-Or c = λ d Γ p f a xs n h. step_or d Γ p f a xs _ _ _ _ _ c.requires n h _ _ c.put-applied.ensures (subst (JointAt c.args.words.now c.args.at) c.in-Or.is c.joint_at.ensures) _ _ c.close-e-in-Or.ensures _ c.begin-in-Or.ensures
+
+pub returns-in-Arrow : goal.returns-in-Arrow
+unfolding Afters
+returns-in-Arrow c = λ d Γ p f a xs n h. step_arrow d Γ p f a xs _ _ _ _ _ c.requires n h _ _ c.put-applied.ensures (subst (JointAt c.args.words.now c.args.at) c.in-Arrow.is c.joint_at.ensures) _ _ c.close-e-in-Arrow.ensures _ c.begin-in-Arrow.ensures
+
+pub returns-in-End : goal.returns-in-End
+unfolding Afters
+returns-in-End c = λ d Γ p f a xs n h. step_end d Γ p f a xs _ _ _ _ _ c.requires n h _ _ c.put-applied.ensures (subst (JointAt c.args.words.now c.args.at) c.in-End.is c.joint_at.ensures) _ _ c.close-e-in-End.ensures _ _ c.put.ensures c.put.auto.post
+
+pub returns-in-Broken : goal.returns-in-Broken
+unfolding Afters
+returns-in-Broken c = λ d Γ p f a xs n h. (subst (JointAt c.args.words.now c.args.at) c.in-Broken.is c.joint_at.ensures) d Γ p _
