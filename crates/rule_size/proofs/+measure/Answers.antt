@@ -19,44 +19,33 @@ measure-f-requires t c = omega arith
 
 pub returns-then-mid-eq0 : goal.returns-then-mid-eq0
 returns-then-mid-eq0 t c = λ n h.
-    let c₁ = c in
-    c.nothing-then-mid-eq0.ensures ∙ no_function n _ _ _ c₁.if-bytes-at.false h _ c₁.if-b-eq1.true c.measure-f.ensures c.if-mid-eq0.true
+    c.nothing-then-mid-eq0.ensures ∙ no_function n _ _ _ c.if-bytes-at.false h _ c.if-b-eq1.true c.measure-f.ensures c.if-mid-eq0.true
 
 pub measure-a-requires : goal.measure-a-requires
 measure-a-requires t c =
-    let c₁ = c in
-    let f = found _ _ _ _ c₁.requires.1 c.measure-f.ensures c.if-mid-eq0.false in
-    omega (arith, f.after, f.within, c₁.requires)
+    let f = found _ _ _ _ c.requires.1 c.measure-f.ensures c.if-mid-eq0.false in
+    omega (arith, f.after, f.within, c.requires)
 
 pub returns-then-a-eq0 : goal.returns-then-a-eq0
 returns-then-a-eq0 t c = λ n h.
-    let c₁ = c in
-    let c₂ = c₁ in
-    let c₃ = c₂ in
-    let f = found _ _ _ _ c₃.requires.1 c₁.measure-f.ensures c₁.if-mid-eq0.false in
+    let f = found _ _ _ _ c.requires.1 c.measure-f.ensures c.if-mid-eq0.false in
     c.nothing-then-a-eq0.ensures
-    ∙ no_argument n _ _ _ c₂.if-bytes-at.false h _ c₂.if-b-eq1.true c₁.measure-f.ensures _ c₁.if-mid-eq0.false f.after c₁.measure-a.ensures c.if-a-eq0.true
+    ∙ no_argument n _ _ _ c.if-bytes-at.false h _ c.if-b-eq1.true c.measure-f.ensures _ c.if-mid-eq0.false f.after c.measure-a.ensures c.if-a-eq0.true
 
 pub overflow_add-result : goal.overflow_add-result
 overflow_add-result t c =
-    let c₁ = c in
-    let c₂ = c₁ in
-    let f = found _ _ _ _ c₂.requires.1 c₁.measure-f.ensures c₁.if-mid-eq0.false in
-    let a = found _ _ _ _ c₂.requires.1 c₁.measure-a.ensures c.if-a-eq0.false in
-    omega (arith, f.after, f.most, a.after, a.within, a.most, c₂.requires.0)
+    let f = found _ _ _ _ c.requires.1 c.measure-f.ensures c.if-mid-eq0.false in
+    let a = found _ _ _ _ c.requires.1 c.measure-a.ensures c.if-a-eq0.false in
+    omega (arith, f.after, f.most, a.after, a.within, a.most, c.requires.0)
 
 pub returns-then-b-eq1 : goal.returns-then-b-eq1
 returns-then-b-eq1 t c = λ n h.
-    let c₁ = c in
-    let c₂ = c₁ in
-    let c₃ = c₂ in
-    let f = found _ _ _ _ c₃.requires.1 c₁.measure-f.ensures c₁.if-mid-eq0.false in
-    is_app n _ _ _ c₂.if-bytes-at.false h _ c₂.if-b-eq1.true c₁.measure-f.ensures _ c₁.if-mid-eq0.false f.after c₁.measure-a.ensures c.if-a-eq0.false
+    let f = found _ _ _ _ c.requires.1 c.measure-f.ensures c.if-mid-eq0.false in
+    is_app n _ _ _ c.if-bytes-at.false h _ c.if-b-eq1.true c.measure-f.ensures _ c.if-mid-eq0.false f.after c.measure-a.ensures c.if-a-eq0.false
 
 pub returns-then-depth-ge16 : goal.returns-then-depth-ge16
 returns-then-depth-ge16 t c = λ n h.
-    let c₁ = c in
-    c.nothing-then-depth-ge16.ensures ∙ too_deep n _ _ _ c₁.if-bytes-at.false h c.if-b-eq2.true c.if-depth-ge16.true
+    c.nothing-then-depth-ge16.ensures ∙ too_deep n _ _ _ c.if-bytes-at.false h c.if-b-eq2.true c.if-depth-ge16.true
 
 pub overflow_add-at-then-b-eq2 : goal.overflow_add-at-then-b-eq2
 overflow_add-at-then-b-eq2 t c = omega arith
@@ -69,36 +58,28 @@ measure-t-requires t c = omega arith
 
 pub returns-then-t-eq0 : goal.returns-then-t-eq0
 returns-then-t-eq0 t c = λ n h.
-    let c₁ = c in
-    let c₂ = c₁ in
-    c.nothing-then-t-eq0.ensures ∙ no_body n _ _ _ c₂.if-bytes-at.false h _ c₁.if-b-eq2.true c₁.if-depth-ge16.false c₁.measure-t.ensures c.if-t-eq0.true
+    c.nothing-then-t-eq0.ensures ∙ no_body n _ _ _ c.if-bytes-at.false h _ c.if-b-eq2.true c.if-depth-ge16.false c.measure-t.ensures c.if-t-eq0.true
 
 pub leaf_weight-requires : goal.leaf_weight-requires
 leaf_weight-requires t c = omega arith
 
 pub overflow_mul-result : goal.overflow_mul-result
 overflow_mul-result t c =
-    let c₁ = c in
-    omega (arith, leaf_weight_most c₁.args.depth c₁.requires.1, c.leaf_weight.ensures)
+    omega (arith, leaf_weight_most c.args.depth c.requires.1, c.leaf_weight.ensures)
 
 pub overflow_sub-result : goal.overflow_sub-result
 overflow_sub-result t c =
-    let c₁ = c in
-    let c₂ = c₁ in
-    let e : c₂.args.depth + 1 - 1 ≡ c₂.args.depth = omega arith in
-    let b = found_less _ (c₂.args.depth + 1) _ _ (omega arith) c₁.measure-t.ensures (omega arith) c.if-t-eq0.false in
+    let e : c.args.depth + 1 - 1 ≡ c.args.depth = omega arith in
+    let b = found_less _ (c.args.depth + 1) _ _ (omega arith) c.measure-t.ensures (omega arith) c.if-t-eq0.false in
     omega (arith, rw e at b, c.leaf_weight.ensures)
 
 pub returns-then-b-eq2 : goal.returns-then-b-eq2
 returns-then-b-eq2 t c = λ n h.
-    let c₁ = c in
-    let c₂ = c₁ in
-    is_abs n _ _ _ c₂.if-bytes-at.false h _ c₁.if-b-eq2.true c₁.if-depth-ge16.false c₁.measure-t.ensures c.leaf_weight.ensures c.if-t-eq0.false
+    is_abs n _ _ _ c.if-bytes-at.false h _ c.if-b-eq2.true c.if-depth-ge16.false c.measure-t.ensures c.leaf_weight.ensures c.if-t-eq0.false
 
 pub measure_atom-requires : goal.measure_atom-requires
 measure_atom-requires t c =
-    let c₁ = c in
-    (c₁.if-bytes-at.false, c₁.requires.1, c.if-b-eq1.false, c.if-b-eq2.false)
+    (c.if-bytes-at.false, c.requires.1, c.if-b-eq1.false, c.if-b-eq2.false)
 
 pub returns : goal.returns
 returns t c = c.measure_atom.ensures

@@ -1,5 +1,4 @@
 -- `rule_size::leaf_weight` meets its contract. The loop's invariant: u is what a leaf counts under i abstractions. Assumes nothing.
-use Prim.Native.Nat.{◌-◌}
 use mathlib.Core.Path.{◌≡◌, refl, ap, ◌∙◌}
 use native.Mathlib.Omega.{arith}
 use Rattle.rule_size.specs.Weight.{leaf_weight}

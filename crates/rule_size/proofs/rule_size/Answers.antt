@@ -13,9 +13,7 @@ returns-then-bytes-ne2 c = other_first _ c.if-bytes-ne2.true
 
 pub returns-then-t-n : goal.returns-then-t-n
 returns-then-t-n c =
-    let c₁ = c in
-    let c₂ = c₁ in
-    is_rule _ _ c₁.if-n-eq0.false c.measure-t.ensures c₂.if-n-gt4096.false c₁.if-bytes-ne2.false c.if-t-n.true
+    is_rule _ _ c.if-n-eq0.false c.measure-t.ensures c.if-n-gt4096.false c.if-bytes-ne2.false c.if-t-n.true
 
 pub returns : goal.returns
 returns c = not_whole _ _ c.if-n-eq0.false c.measure-t.ensures c.if-t-n.false
