@@ -8,7 +8,7 @@ use mathlib.Core.Option.{Option, none, some}
 use lib.ListN.{length}
 use lib.Dec.{eqb}
 use borrow.Author.Tests.{eqb-true, eqb-false}
-use Rattle.grammar.specs.Expression.{Expression, app, and, or, implies}
+use Rattle.grammar.specs.Expression.{Expression, app}
 use Rattle.grammar.specs.Tokens.{Token, caret, name, opening, closing, backslash, stop, bang, ampersand, bar, arrow}
 use Rattle.grammar.specs.Grammar.{Bound, nearest, farther, Ends, of_text, of_group, Level, Reads, the_leaf, the_name, group, abstraction, one_operand, applied, one_application, negated, one_negation, both, one_conjunction, either, one_disjunction, follows}
 use Rattle.grammar.specs.Reader as reader
