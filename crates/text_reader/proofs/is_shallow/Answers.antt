@@ -1,0 +1,13 @@
+-- `text_reader::is_shallow` meets its contract: few abstractions, and many. Assumes nothing.
+use mathlib.Core.List.{[]}
+use Rattle.text_reader.proofs.Giving.{few_shallow, nests_shallow}
+use Rattle.text_reader.proofs.is_shallow.Goals as goal
+
+pub returns-then-count-le16 : goal.returns-then-count-le16
+returns-then-count-le16 c = λ e q. few_shallow e _ _ q _ c.requires.1 c.if-count-le16.true
+
+pub nesting-nested-requires : goal.nesting-nested-requires
+nesting-nested-requires c = let q = c.requires.0.is in record { e = c.requires.0.e; xs = []; stands = q.stands; within = q.within; few = q.few }
+
+pub returns : goal.returns
+returns c = λ e q. nests_shallow e _ _ q _ _ (c.nesting-nested.ensures e [] q.stands)
