@@ -1,6 +1,4 @@
 -- `term::lay` meets its contract, by the first word of the tree's run. The measure is what is left of the run. Assumes nothing.
-use Prim.Native.Nat.{◌-◌}
-use mathlib.Core.Path.{◌∙◌}
 use native.Mathlib.Omega.{arith}
 use Rattle.bracket.proofs.Runs.{begins, ends}
 use Rattle.index.proofs.Ready.{node_ready}
@@ -17,12 +15,6 @@ bounds-stack-p t c = begins _ _ _ c.requires.0.stands
 pub make-requires : goal.make-requires
 make-requires t c = (c.requires.1, leaf_words)
 
-pub shape_of-table-then-x-eq0 : goal.shape_of-table-then-x-eq0
-shape_of-table-then-x-eq0 t c = c.make.auto.table
-
-pub shape_of-index-then-x-eq0 : goal.shape_of-index-then-x-eq0
-shape_of-index-then-x-eq0 t c = c.make.auto.index
-
 pub returns-then-x-eq0 : goal.returns-then-x-eq0
 returns-then-x-eq0 t c =
     (λ x h. lay_leaf _ _ _ _ x h _ _ c.if-x-eq0.true c.make.ensures.0, c.make.ensures.1)
@@ -35,13 +27,7 @@ overflow_add-p t c =
 pub lay-only-requires : goal.lay-only-requires
 lay-only-requires t c =
     let k = is_stem_lem _ _ _ c.requires.0.stands c.if-x-eq2.true in
-    (omega (arith, begins _ _ _ k.only, c.requires.0), (record { tree = k.branch; stands = k.only }, c.requires.1))
-
-pub shape_of-table-in_default : goal.shape_of-table-in_default
-shape_of-table-in_default t c = c.lay-only.auto.table
-
-pub shape_of-index-in_default : goal.shape_of-index-in_default
-shape_of-index-in_default t c = c.lay-only.auto.index
+    (omega (arith, begins _ _ _ k.only), (record { tree = k.branch; stands = k.only }, c.requires.1))
 
 pub returns-in_default : goal.returns-in_default
 returns-in_default t c =
@@ -63,12 +49,6 @@ make-requires-then-x-eq2 t c =
     let y = node_ready c.lay-only.ensures.1 q in
     (y, o)
 
-pub shape_of-table-then-x-eq2 : goal.shape_of-table-then-x-eq2
-shape_of-table-then-x-eq2 t c = c.make-then-x-eq2.auto.table ∙ c.lay-only.auto.table
-
-pub shape_of-index-then-x-eq2 : goal.shape_of-index-then-x-eq2
-shape_of-index-then-x-eq2 t c = c.make-then-x-eq2.auto.index ∙ c.lay-only.auto.index
-
 pub returns-then-x-eq2 : goal.returns-then-x-eq2
 returns-then-x-eq2 t c =
     let m = c.make-then-x-eq2.ensures in
@@ -77,7 +57,7 @@ returns-then-x-eq2 t c =
 pub overflow_add-u : goal.overflow_add-u
 overflow_add-u t c =
     let k = is_fork _ _ _ c.requires.0.stands c.if-x-eq0.false c.if-x-eq2.false in
-    omega (arith, begins _ _ _ k.first, c.well_formed)
+    omega (arith, begins _ _ _ k.first)
 
 pub overflow_add-v : goal.overflow_add-v
 overflow_add-v t c = omega (arith, begins _ _ _ c.requires.0.stands)
@@ -93,13 +73,7 @@ overflow_add-v-2 t c =
 pub lay-second-requires : goal.lay-second-requires
 lay-second-requires t c =
     let k = is_fork _ _ _ c.requires.0.stands c.if-x-eq0.false c.if-x-eq2.false in
-    (omega (arith, begins _ _ _ c.requires.0.stands, c.requires.0), (record { tree = k.further; stands = k.second }, c.requires.1))
-
-pub shape_of-table-in_default-second : goal.shape_of-table-in_default-second
-shape_of-table-in_default-second t c = c.lay-second.auto.table
-
-pub shape_of-index-in_default-second : goal.shape_of-index-in_default-second
-shape_of-index-in_default-second t c = c.lay-second.auto.index
+    (omega (arith, begins _ _ _ c.requires.0.stands), (record { tree = k.further; stands = k.second }, c.requires.1))
 
 pub returns-in_default-second : goal.returns-in_default-second
 returns-in_default-second t c =
@@ -108,13 +82,7 @@ returns-in_default-second t c =
 pub lay-first-requires : goal.lay-first-requires
 lay-first-requires t c =
     let k = is_fork _ _ _ c.requires.0.stands c.if-x-eq0.false c.if-x-eq2.false in
-    (omega (arith, begins _ _ _ k.first, c.requires.0), (record { tree = k.branch; stands = k.first }, node_ready c.lay-second.ensures.1 c.in-Node-second.is))
-
-pub shape_of-table-in_default-first : goal.shape_of-table-in_default-first
-shape_of-table-in_default-first t c = c.lay-first.auto.table ∙ c.lay-second.auto.table
-
-pub shape_of-index-in_default-first : goal.shape_of-index-in_default-first
-shape_of-index-in_default-first t c = c.lay-first.auto.index ∙ c.lay-second.auto.index
+    (omega (arith, begins _ _ _ k.first), (record { tree = k.branch; stands = k.first }, node_ready c.lay-second.ensures.1 c.in-Node-second.is))
 
 pub returns-in_default-first : goal.returns-in_default-first
 returns-in_default-first t c = (
@@ -148,12 +116,6 @@ make-requires-2 t c =
     let o = fork_wants c.requires.1.fine k.branch k.further _ _ _ _ (c.lay-second.ensures.0 k.further k.second) p (c.lay-first.ensures.0 k.branch k.first) q in
     let y = node_ready c.lay-first.ensures.1 q in
     (y, o)
-
-pub shape_of-table : goal.shape_of-table
-shape_of-table t c = c.make-2.auto.table ∙ c.lay-first.auto.table ∙ c.lay-second.auto.table
-
-pub shape_of-index : goal.shape_of-index
-shape_of-index t c = c.make-2.auto.index ∙ c.lay-first.auto.index ∙ c.lay-second.auto.index
 
 pub returns : goal.returns
 returns t c =

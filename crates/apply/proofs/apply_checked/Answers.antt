@@ -1,0 +1,24 @@
+-- `apply::apply_checked` meets its contract: 3 for either number, then the application. Assumes nothing.
+use Rattle.apply.proofs.Entered.{within_limit, refuse_function, refuse_argument, by_nodes}
+use Rattle.apply.proofs.apply_checked.Goals as goal
+
+pub returns-then-used-function : goal.returns-then-used-function
+returns-then-used-function c =
+    let a = c.args in
+    refuse_function a.table.now a.used a.stack.now a.function a.argument a.limit c.requires.1 c.if-used-function.true
+
+pub returns-then-used-argument : goal.returns-then-used-argument
+returns-then-used-argument c =
+    let a = c.args in
+    refuse_argument a.table.now a.used a.stack.now a.function a.argument a.limit c.requires.1 c.if-used-function.false c.if-used-argument.true
+
+pub apply_nodes-ended-requires : goal.apply_nodes-ended-requires
+apply_nodes-ended-requires c =
+    let a = c.args in
+    (c.requires.0, c.if-used-function.false, c.if-used-argument.false, within_limit a.table.now a.used a.stack.now a.function a.argument a.limit c.requires.1)
+
+pub returns : goal.returns
+returns c =
+    let a = c.args in
+    by_nodes a.table.now a.used a.stack.now a.function a.argument a.limit c.requires.1 c.if-used-function.false c.if-used-argument.false c.apply_nodes-ended.ensures.0
+    c.applied.ensures
