@@ -14,7 +14,6 @@ use Rattle.calculus.specs.declared.Uses.{Uses}
 use Rattle.calculus.specs.Uses.{steps, InSteps}
 use Rattle.calculus.specs.Rules.{ApplyAll}
 use Rattle.calculus.specs.Term.{Term}
-use Rattle.calculus.specs.Bytes.{rule}
 use Rattle.calculus.specs.Abstraction.{rule_tree}
 use Rattle.calculus.specs.Runs.{Translated}
 use Rattle.calculus.proofs.Unique.{apply_all_unique}

@@ -7,7 +7,7 @@ use native.Mathlib.Omega.{arith}
 use lib.ListN.{length, length-append}
 use lib.Dec.{leb}
 use borrow.Author.Tests.{le-leb}
-use Rattle.calculus.specs.Tree.{Tree, size}
+use Rattle.calculus.specs.Tree.{Tree}
 use Rattle.calculus.specs.declared.Uses.{Uses}
 use Rattle.calculus.specs.Uses.{no_uses, ◌⊕◌, steps}
 use Rattle.calculus.specs.Rules.{Apply, ApplyAll, at_end, and_next}
@@ -41,7 +41,6 @@ use Rattle.running.specs.Run.{after_made_by, after_made, after_applied, writes, 
 use Rattle.running.specs.Tell.{told, after_ended, tell_applies, tell_stages}
 use Rattle.running.specs.Claims.{Fit, total, nodes_by, end_table, TranslateHad, ReadsHad, all_read, and_read, ReadStops, later, Reached, at_first, and_applied, ApplyStops, Stops, in_translate, in_read, in_apply, in_write, stop_of}
 use Rattle.running.specs.declared.Ran.{Ran}
-use Rattle.running.specs.declared.Ran.TheVariants.{Refused}
 use Rattle.running.specs.declared.Stop.TheVariants.{Nowhere, At}
 use Rattle.running.specs.declared.Told.{Told}
 use Rattle.running.proofs.Undone.{apply_halts, reached_ends, all_stop}
