@@ -1,19 +1,15 @@
 -- Laws of the two answers, one for each way that their code goes. Assumes nothing.
 use Prim.Native.Nat.{ℕ, ◌+◌, ◌-◌, ◌*◌, ◌%◌, ◌≤◌, ◌<◌}
-use mathlib.Core.Path.{◌≡◌, refl, sym, ap, subst, ◌∙◌}
+use mathlib.Core.Path.{◌≡◌, refl, sym, ap, ◌∙◌}
 use mathlib.Core.Bool.{true, false}
-use mathlib.Core.List.{List, [], ◌∷◌}
-use mathlib.Core.Logic.{⊎_elim}
+use mathlib.Core.List.{List, []}
 use mathlib.Core.Option.{Option, none, some}
 use native.Mathlib.Omega.{arith}
-use types.Run
-use denote.Enum.Declared
 use lib.ListN.{get_or}
 use Rattle.table.specs.declared.Refusal.TheVariants.{Week}
 use Rattle.table.specs.declared.Given.{Given}
 use Rattle.table.specs.declared.Given.TheVariants.{Number, Refused}
 use Rattle.table.specs.Refusal.{given_by}
-use Rattle.table.specs.contracts.Given as goal
 use Rattle.table.proofs.Words.{zero_one}
 use Rattle.week.specs.declared.Window.{Window}
 use Rattle.week.specs.Weeks.{passes, checked, packet_at, window_at, next_window}
@@ -29,10 +25,10 @@ unfolding given_by
 some_number none p q = zero_one (cc)
 some_number (some m) {n = n} p q = let e : m ≡ n = cc in ap some e
 
-no_number : (o : Option ℕ) {r : Given} → r ≡ given_by o → Run.OneOf (1 ∷ 2 ∷ []) (Declared.tag_of goal.the_type r) → o ≡ none
+no_number : (o : Option ℕ) {r : Given} → r ≡ given_by o → ((n : ℕ) → r ≡ Number n → ⊥) → o ≡ none
 unfolding given_by
 no_number none p t = refl
-no_number (some m) p t = absurd (⊎_elim (λ q. omega arith) (λ q. omega arith) (subst (λ (g : Given). Run.OneOf (1 ∷ 2 ∷ []) (Declared.tag_of goal.the_type g)) p t))
+no_number (some m) p t = absurd (t m p)
 
 module _ (week : List (List Window)) (day minute : ℕ) where
   pub refused_first : passes week day minute ≡ false → (o : Option ℕ) → Refused Week ≡ checked week day minute o
@@ -73,5 +69,5 @@ module _ (week : List (List Window)) (day minute : ℕ) where
       pub reached_ahead : {b : ℕ} → r ≡ Number b → (minute ≤ k * 1440 + b) × (b < 1440)
       reached_ahead {b} t = reaches week day minute input k p b (first_is t)
 
-      pub none_ahead_of : Run.OneOf (1 ∷ 2 ∷ []) (Declared.tag_of goal.the_type r) → NoneWithin week day minute (k + 1)
+      pub none_ahead_of : ((n : ℕ) → r ≡ Number n → ⊥) → NoneWithin week day minute (k + 1)
       none_ahead_of t = none_next week day minute input k p (sym moved ∙ no_number _ q t)
