@@ -23,10 +23,6 @@ use Rattle.unlabel.specs.declared.Shape.TheVariants.{Leaf, Stem, Fork}
 use Rattle.unlabel.specs.declared.Under.{Under}
 use Rattle.unlabel.specs.declared.Under.TheVariants as under
 
--- a shape that is one of these: leaf 0, stem 1, fork 2
-abbrev pub OneOf : List ℕ → Shape → Type 0
-OneOf l s = Run.OneOf l (Declared.tag_of Rattle.unlabel.specs.contracts.Shape.the_type s)
-
 pub leaf_passes : {x : Tree} → x ≡ leaf → is_leaf x ≡ true
 unfolding is_leaf
 leaf_passes h = rw h
@@ -51,25 +47,25 @@ module _ {w : List ℕ} {v : ℕ} where
   pub told_fork : {s : Shape} {p q : ℕ} → Shaped w v s → s ≡ Fork p q → IsFork w v p q
   told_fork h e = fork_in (subst (Shaped w v) e h)
 
-  pub no_leaf : {s : Shape} → Shaped w v s → OneOf (1 ∷ 2 ∷ []) s → is_leaf (tree_at w v) ≡ false
+  pub no_leaf : {s : Shape} → Shaped w v s → (s ≡ Leaf → ⊥) → is_leaf (tree_at w v) ≡ false
   unfolding is_leaf
-  no_leaf (a_leaf h) o = absurd (⊎_elim (λ q. omega arith) (λ q. omega arith) o)
+  no_leaf (a_leaf h) o = absurd (o refl)
   no_leaf (a_stem h) o = rw h.tree
   no_leaf (a_fork h) o = rw h.tree
 
-  pub no_stem : {s : Shape} → Shaped w v s → OneOf (0 ∷ 2 ∷ []) s
+  pub no_stem : {s : Shape} → Shaped w v s → ((p : ℕ) → s ≡ Stem p → ⊥)
       → (is_stem (tree_at w v) ≡ false) × (is_k (tree_at w v) ≡ false) × (is_label_branch (tree_at w v) ≡ false)
   unfolding is_stem is_k is_label_branch
   no_stem (a_leaf h) o = rw h (refl, refl, refl)
-  no_stem (a_stem h) o = absurd (⊎_elim (λ q. omega arith) (λ q. omega arith) o)
+  no_stem (a_stem h) o = absurd (o _ refl)
   no_stem (a_fork h) o = rw h.tree (refl, refl, refl)
 
-  pub no_fork : {s : Shape} → Shaped w v s → OneOf (0 ∷ 1 ∷ []) s
+  pub no_fork : {s : Shape} → Shaped w v s → ((p q : ℕ) → s ≡ Fork p q → ⊥)
       → (is_kk (tree_at w v) ≡ false) × (is_k_of (tree_at w v) ≡ false) × (is_rule_branch (tree_at w v) ≡ false) × (is_labelled (tree_at w v) ≡ false)
   unfolding is_kk is_k_of is_rule_branch is_labelled
   no_fork (a_leaf h) o = rw h (refl, refl, refl, refl)
   no_fork (a_stem h) o = rw h.tree (refl, refl, refl, refl)
-  no_fork (a_fork h) o = absurd (⊎_elim (λ q. omega arith) (λ q. omega arith) o)
+  no_fork (a_fork h) o = absurd (o _ _ refl)
 
 -- the test of the stem of a node p
 pub label_branch : {w : List ℕ} {v p : ℕ} {z : Bool} → IsStem w v p → is_k_of (tree_at w p) ≡ z → is_label_branch (tree_at w v) ≡ z
