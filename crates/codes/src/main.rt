@@ -7,7 +7,7 @@ ghost use Rattle.table.specs.Wrote.{Wrote};
 ghost use Rattle.short_codes.specs.Values.{values_from, values_to};
 ghost use Rattle.codes.specs.Code.{RoomFor};
 
-use libc::STDOUT_FILENO;
+use std::io;
 
 // Puts into out, from place `at` on, the values of the texts that have n digits more and use up `wanted` trees, after a beginning of the value `value`; the
 // place after them.
@@ -43,13 +43,11 @@ fn put_trees(n: usize, out: &mut [u32]) -> usize
 }
 
 // Prints the values, one a line.
-fn main() {
+fn main(rt: HostRuntime) -> io::Result<()> {
     let mut values = [0u32; 1374];
     let many = put_trees(10, &mut values);
-    let mut i = 0;
-    while i < many {
-        io::print_decimal(STDOUT_FILENO, values[i] as u64);
-        io::write_all(STDOUT_FILENO, b"\n");
-        i += 1;
+    for value in &values[..many] {
+        println!(rt; "{value}")?;
     }
+    Ok(())
 }

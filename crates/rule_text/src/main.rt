@@ -6,7 +6,7 @@ ghost use Rattle.std.specs.Prelude.{◌≡◌, ◌*◌, ◌≤◌, ◌<◌, ◌+
 ghost use Rattle.rule_text.specs.Line.{digit, digits};
 
 use grammar::Encoded;
-use libc::{STDIN_FILENO, STDOUT_FILENO};
+use std::io::{self, Write};
 
 // A hexadecimal digit.
 fn digit(n: u8) -> u8
@@ -36,35 +36,34 @@ fn spell(bytes: &[u8], line: &mut [u8]) -> usize
 }
 
 // Writes a line.
-fn print(refusal: u64, text: &[u8]) {
-    io::print_decimal(STDOUT_FILENO, refusal);
-    io::write_all(STDOUT_FILENO, b" ");
-    io::write_all(STDOUT_FILENO, text);
-    io::write_all(STDOUT_FILENO, b"\n");
+fn print<W: Write>(output: &mut W, refusal: usize, text: &[u8]) -> io::Result<()> {
+    write!(output, "{refusal} ")?;
+    output.write_all(text)?;
+    output.write_all(b"\n")
 }
 
 // Reads a text, with room for any rule.
-fn answer(text: &[u8]) {
+fn answer<W: Write>(output: &mut W, text: &[u8]) -> io::Result<()> {
     let mut out = [0u8; 4096];
     let mut line = [0u8; 8192];
     match rule_reader::rule_text(text, &mut out) {
         Encoded::Bytes(n) => {
             let m = spell(&out[..n], &mut line);
-            print(0, &line[..m]);
+            print(output, 0, &line[..m])
         }
-        Encoded::Refused(refusal) => print(refusals::number(refusal) as u64, b"-"),
+        Encoded::Refused(refusal) => print(output, refusals::number(refusal), b"-"),
     }
 }
 
 // A text of more than 8,192 bytes is refused, so these, a newline and one byte more are enough to read.
-fn main() {
+fn main(rt: HostRuntime) -> io::Result<()> {
     let mut input = [0u8; 8194];
-    let n = io::read_full(STDIN_FILENO, &mut input);
+    let n = streams::read_full(&mut rt.reader(), &mut input)?;
+    let mut output = io::writer(&rt);
     if 0 < n {
         if input[n - 1] == 10 {
-            answer(&input[..n - 1]);
-            return;
+            return answer(&mut output, &input[..n - 1]);
         }
     }
-    answer(&input[..n]);
+    answer(&mut output, &input[..n])
 }

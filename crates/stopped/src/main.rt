@@ -2,39 +2,41 @@
 // whole run and the name of the rule wanted, parted by blanks. For every other outcome: Run's number alone.
 #![tactic(auto)]
 
-use libc::{STDIN_FILENO, STDOUT_FILENO};
+use std::io::{self, Write};
 use stopping::{Kind, Stopped};
 use table::Refusal;
 
-// Writes a number.
-fn print(number: usize) {
-    io::print_decimal(STDOUT_FILENO, number as u64);
-}
-
-// Writes the name of a rule, and says whether it could.
-fn print_rule(rule: Kind) -> bool {
+// The name of a rule.
+fn name(rule: Kind) -> &'static str {
     match rule {
-        Kind::Leaf => io::write_all(STDOUT_FILENO, b"leaf"),
-        Kind::Stem => io::write_all(STDOUT_FILENO, b"stem"),
-        Kind::Drop => io::write_all(STDOUT_FILENO, b"drop"),
-        Kind::Spread => io::write_all(STDOUT_FILENO, b"spread"),
-        Kind::Triage => io::write_all(STDOUT_FILENO, b"triage"),
+        Kind::Leaf => "leaf",
+        Kind::Stem => "stem",
+        Kind::Drop => "drop",
+        Kind::Spread => "spread",
+        Kind::Triage => "triage",
     }
 }
 
 // Writes where applying stopped.
-fn print_stop(refusal: Refusal, place: usize, steps: usize, rule: Kind) {
-    print(refusals::number(refusal));
-    io::write_all(STDOUT_FILENO, b" ");
-    print(place);
-    io::write_all(STDOUT_FILENO, b" ");
-    print(steps);
-    io::write_all(STDOUT_FILENO, b" ");
-    print_rule(rule);
+fn print_stop<W: Write>(
+    output: &mut W,
+    refusal: Refusal,
+    place: usize,
+    steps: usize,
+    rule: Kind,
+) -> io::Result<()> {
+    let number = refusals::number(refusal);
+    let wanted = name(rule);
+    writeln!(output, "{number} {place} {steps} {wanted}")
+}
+
+// Writes a number alone.
+fn print<W: Write>(output: &mut W, number: usize) -> io::Result<()> {
+    writeln!(output, "{number}")
 }
 
 // Runs a packet, with 8,192 nodes, 4,096 frames and 16,384 out bytes, as the program `lazvorn` does.
-fn answer(packet: &[u8]) {
+fn answer<W: Write>(output: &mut W, packet: &[u8]) -> io::Result<()> {
     let mut table = [0u32; 16384];
     let mut stack = [0u32; 12288];
     let mut out = [0u8; 16384];
@@ -44,16 +46,15 @@ fn answer(packet: &[u8]) {
             place,
             steps,
             rule,
-        } => print_stop(refusal, place, steps, rule),
-        Stopped::Refused(refusal) => print(refusals::number(refusal)),
-        Stopped::Completed => print(0),
+        } => print_stop(output, refusal, place, steps, rule),
+        Stopped::Refused(refusal) => print(output, refusals::number(refusal)),
+        Stopped::Completed => print(output, 0),
     }
-    io::write_all(STDOUT_FILENO, b"\n");
 }
 
 // A packet of more than 16,384 bytes is refused, so one byte more is enough to read.
-fn main() {
+fn main(rt: HostRuntime) -> io::Result<()> {
     let mut packet = [0u8; 16385];
-    let n = io::read_full(STDIN_FILENO, &mut packet);
-    answer(&packet[..n]);
+    let n = streams::read_full(&mut rt.reader(), &mut packet)?;
+    answer(&mut io::writer(&rt), &packet[..n])
 }
