@@ -5,7 +5,7 @@ use mathlib.Core.Path.{◌≡◌, refl}
 use mathlib.Core.List.{List, [], ◌∷◌}
 use native.Mathlib.Omega.{arith}
 use lib.ListN.{take, replicate}
-use Rattle.calculus.specs.Tree.{Tree, leaf, stem, size}
+use Rattle.calculus.specs.Tree.{leaf, stem, size}
 use Rattle.calculus.specs.Term.{Term, app, abs, var, parameters, body_under}
 use Rattle.calculus.specs.Bytes as bytes
 use Rattle.calculus.specs.Abstraction as abstraction

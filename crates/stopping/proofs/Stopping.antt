@@ -15,7 +15,6 @@ use Rattle.table.specs.declared.Refusal.{Refusal}
 use Rattle.table.proofs.Words.{told_apart, zero_one}
 use Rattle.ternary.specs.Read.{readable}
 use Rattle.applying.specs.declared.Rule.{Rule}
-use Rattle.applying.specs.declared.Rule.TheVariants as rule
 use Rattle.applying.specs.Machine.{needs_frame, State, wanted, Turn, more, uses}
 use Rattle.applying.specs.Apply.{begin}
 use Rattle.applying.specs.Ended.{Halted, for_steps, for_lack}

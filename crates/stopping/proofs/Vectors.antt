@@ -1,7 +1,7 @@
 -- Runs of document 01's rules that stop, computed: what `stopped` answers of each. Assumes nothing.
 use Prim.Native.Nat.{ℕ}
 use mathlib.Core.Path.{◌≡◌, refl}
-use mathlib.Core.List.{List, [], ◌∷◌, ◌++◌}
+use mathlib.Core.List.{List, [], ◌∷◌}
 use lib.ListN.{replicate}
 use Rattle.calculus.specs.Tree.{size}
 use Rattle.calculus.specs.Bytes as bytes
@@ -18,7 +18,7 @@ use Rattle.applying.specs.Ended as application
 use Rattle.fields.specs.Packet as packet
 use Rattle.running.specs.Run as run
 use Rattle.running.specs.Tell as telling
-use Rattle.stopping.specs.declared.Kind.TheVariants.{Leaf, Stem, Drop, Spread}
+use Rattle.stopping.specs.declared.Kind.TheVariants.{Leaf, Stem, Spread}
 use Rattle.stopping.specs.declared.Stopped.{Stopped}
 use Rattle.stopping.specs.declared.Stopped.TheVariants.{Applying, Refused, Completed}
 use Rattle.stopping.specs.Stopped as stopping

@@ -1,16 +1,15 @@
 -- Decimal digits as numbers: digits and grams undo one another, and adding and comparing digit by digit is that of the grams. Assumes nothing.
 use Prim.Native.Nat.{ℕ, zero, suc, ◌+◌, ◌*◌, ◌/◌, ◌%◌, ◌≤◌, ◌<◌}
-use mathlib.Core.Path.{◌≡◌, refl, sym, ap, ◌∙◌}
+use mathlib.Core.Path.{◌≡◌, refl, sym, ap}
 use mathlib.Core.Bool.{Bool, true, false}
 use mathlib.Core.List.{List, [], ◌∷◌}
 use mathlib.Core.Option.{none, some}
 use native.Mathlib.Omega.{arith}
-use lib.ListN.{length, get_or}
+use lib.ListN.{length}
 use lib.Dec.{ltb}
 use borrow.Author.Tests.{lt-ltb, le-ltb, ltb-true, ltb-false}
 use Rattle.weights.specs.Digits.{grams_of, digits_of, before, add_digits, order_of, decides, compare_digits}
 use Rattle.weights.specs.Claims.{Decimal}
-use Rattle.weights.specs.declared.Ordered.{Ordered}
 use Rattle.weights.specs.declared.Ordered.TheVariants.{Less, Equal, Greater}
 
 -- how many numbers so many digits can be

@@ -21,7 +21,7 @@ use Rattle.table.proofs.Words.{zero_one}
 use Rattle.table.proofs.Making.{lay_full, lay_fills}
 use Rattle.table.proofs.Entry.{entered, enters, entry_lacks, lacks_entry}
 use Rattle.table.proofs.Laid.{laid_got, laid_full, full_outcome, placed_gives}
-use Rattle.weights.specs.Digits.{list_tree, grams_of, digits_of, weight_tree, gram_digits, digits_of_weight, sum_digits, order_of}
+use Rattle.weights.specs.Digits.{grams_of, digits_of, weight_tree, gram_digits, digits_of_weight, sum_digits, order_of}
 use Rattle.weights.specs.Weights.{laid_digits, checked_digits, weight, add_weights, weigh, grams, compare_both, compare_weights}
 use Rattle.weights.specs.Claims.{IsWeight, AreWeights, LaidOut, WeightMade, WeightsAdded, Weighs, Compares}
 use Rattle.weights.specs.declared.Weighed.{Weighed}

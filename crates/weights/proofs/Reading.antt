@@ -10,10 +10,10 @@ use lib.ListN.{length, take}
 use borrow.Author.Tests.{le-leb}
 use Rattle.calculus.specs.Tree.{Tree}
 use Rattle.table.specs.Nodes.{Making, got, full, lay, tree_at}
-use Rattle.table.specs.Outcome.{Outcome, whole, frames, zeros, fits, at_entry, unless, placed, stopped, laid}
+use Rattle.table.specs.Outcome.{Outcome, whole, frames, zeros, fits, at_entry, placed, stopped, laid}
 use Rattle.table.specs.declared.Refusal.{Refusal}
 use Rattle.table.specs.declared.Made.{Made}
-use Rattle.table.specs.declared.Made.TheVariants.{Node, Refused}
+use Rattle.table.specs.declared.Made.TheVariants.{Node}
 use Rattle.table.proofs.Laid.{room_laid, laid_got, laid_full}
 use Rattle.table.proofs.Entry.{entered, enters}
 use Rattle.ternary.specs.Text.{text, take_leaf, take_fork, take_digit, pending, many_pending, most_pending}
@@ -24,7 +24,7 @@ use Rattle.ternary.specs.declared.Written.TheVariants.{Digits}
 use Rattle.ternary.proofs.OneText.{pending_text, text_read, whole_pending, length_text}
 use Rattle.ternary.proofs.Reading.{some_readable, read_found}
 use Rattle.ternary.proofs.Writes.{write_gives, write_text}
-use Rattle.weights.specs.Digits.{digit_tree, list_tree, digits_of, weight_tree, digits_of_weight, sum_digits}
+use Rattle.weights.specs.Digits.{digit_tree, list_tree, digits_of, weight_tree}
 use Rattle.weights.specs.Weights.{laid_digits, checked_digits, weight, add_weights}
 use Rattle.weights.specs.Claims.{NineDigits, IsWeight, AreWeights}
 use Rattle.weights.proofs.Weights.{nine_of, weight_exactly, weight_size, gram_digits_lem, sum_digits_lem}

@@ -1,18 +1,16 @@
 -- Which trees are weights, and of how many grams. Assumes nothing.
 use Prim.Native.Nat.{ℕ, ◌+◌, ◌≤◌, ◌<◌}
 use mathlib.Core.Path.{◌≡◌, refl, sym, ap, subst, ◌∙◌}
-use mathlib.Core.Bool.{Bool, true, false, cond}
-use mathlib.Core.List.{List, [], ◌∷◌}
+use mathlib.Core.List.{List}
 use mathlib.Core.Logic.{◌↔◌}
 use mathlib.Core.Option.{Option, none, some}
 use native.Mathlib.Omega.{arith}
 use lib.ListN.{length}
-use lib.Dec.{leb}
 use borrow.Author.Tests.{le-leb, lt-leb}
 use Rattle.calculus.specs.Tree.{Tree, size}
 use Rattle.table.proofs.Words.{zero_one}
 use Rattle.weights.specs.Digits.{list_tree, grams_of, digits_of, weight_tree, gram_digits, digits_in, digits_of_weight, sum_digits, order_of, compare_digits}
-use Rattle.weights.specs.Claims.{Decimal, NineDigits, IsWeight}
+use Rattle.weights.specs.Claims.{NineDigits, IsWeight}
 use Rattle.weights.proofs.Numbers.{tens, grams_below, digits_back, grams_back, digits_many, digits_decimal, adds, adds_above, compares}
 use Rattle.weights.proofs.Trees.{list_read, list_only, list_size}
 
