@@ -22,7 +22,7 @@ pub overflow_mul-value : goal.overflow_mul-value
 overflow_mul-value t c = omega (arith, value_bound _ _ c.requires.ten_digits)
 
 pub put_values-after_leaf-requires : goal.put_values-after_leaf-requires
-put_values-after_leaf-requires t c = (omega (arith, c.if-n-eq0.false, c.requires.0), leaves_ready c.requires c.if-n-eq0.false c.if-wanted-eq0-2.false)
+put_values-after_leaf-requires t c = (omega (arith, c.if-n-eq0.false), leaves_ready c.requires c.if-n-eq0.false c.if-wanted-eq0-2.false)
 
 pub overflow_mul-value-2 : goal.overflow_mul-value-2
 overflow_mul-value-2 t c = omega (arith, value_bound _ _ c.requires.ten_digits)
@@ -32,7 +32,7 @@ overflow_add-value t c = omega (arith, value_bound _ _ c.requires.ten_digits)
 
 pub put_values-after_stem-requires : goal.put_values-after_stem-requires
 put_values-after_stem-requires t c =
-    (omega (arith, c.if-n-eq0.false, c.requires.0), stems_ready c.requires c.if-n-eq0.false c.if-wanted-eq0-2.false c.put_values-after_leaf.ensures c.put_values-after_leaf.auto.out)
+    (omega (arith, c.if-n-eq0.false), stems_ready c.requires c.if-n-eq0.false c.if-wanted-eq0-2.false c.put_values-after_leaf.ensures c.put_values-after_leaf.auto.out)
 
 pub overflow_add-wanted : goal.overflow_add-wanted
 overflow_add-wanted t c = omega (arith, c.requires.few)
@@ -45,7 +45,7 @@ overflow_add-value-2 t c = omega (arith, value_bound _ _ c.requires.ten_digits)
 
 pub put_values-requires : goal.put_values-requires
 put_values-requires t c =
-    (omega (arith, c.if-n-eq0.false, c.requires.0), forks_ready c.requires c.if-n-eq0.false c.if-wanted-eq0-2.false c.put_values-after_leaf.ensures c.put_values-after_leaf.auto.out c.put_values-after_stem.ensures c.put_values-after_stem.auto.out)
+    (omega (arith, c.if-n-eq0.false), forks_ready c.requires c.if-n-eq0.false c.if-wanted-eq0-2.false c.put_values-after_leaf.ensures c.put_values-after_leaf.auto.out c.put_values-after_stem.ensures c.put_values-after_stem.auto.out)
 
 pub returns : goal.returns
 returns t c =
