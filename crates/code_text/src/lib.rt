@@ -9,6 +9,9 @@ ghost use Rattle.short_codes.specs.ShortCodes.{code_text};
 
 use table::{Given, Refusal};
 
+// How many codes there are.
+const CODES: usize = 1374;
+
 // How many digits a value has in base 3.
 fn many_digits(value: usize) -> usize
     ensures { (result ≡ length (numeral value)) × (result ≤ value + 1) }
@@ -34,7 +37,7 @@ fn put_digits(value: usize, n: usize, out: &mut [u8])
 pub fn code_text(code: usize, out: &mut [u8]) -> Given
     ensures { whole_out result [] [] out.new ≡ code_text code out.old }
 {
-    if 1374 <= code {
+    if CODES <= code {
         return Given::Nothing;
     }
     let value = code_values::value_at(code) as usize;

@@ -4,13 +4,13 @@ use Rattle.short_codes.proofs.Outcomes.{no_code_text}
 use Rattle.code_text.proofs.Ways.{short_out, text_out}
 use Rattle.code_text.proofs.code_text.Goals as goal
 
-pub returns-then-code-ge1374 : goal.returns-then-code-ge1374
-returns-then-code-ge1374 c = sym (no_code_text _ _ c.if-code-ge1374.true)
+pub returns-then-code-ge-CODES : goal.returns-then-code-ge-CODES
+returns-then-code-ge-CODES c = sym (no_code_text _ _ c.if-code-ge-CODES.true)
 
 pub returns-then-out-n : goal.returns-then-out-n
 returns-then-out-n c =
-    short_out _ _ _ _ c.if-code-ge1374.false c.value_at-value.ensures c.many_digits-n.ensures.0 c.if-out-n.true
+    short_out _ _ _ _ c.if-code-ge-CODES.false c.value_at-value.ensures c.many_digits-n.ensures.0 c.if-out-n.true
 
 pub returns : goal.returns
 returns c =
-    text_out _ _ _ _ c.if-code-ge1374.false c.value_at-value.ensures c.many_digits-n.ensures.0 c.if-out-n.false c.put_digits.ensures
+    text_out _ _ _ _ c.if-code-ge-CODES.false c.value_at-value.ensures c.many_digits-n.ensures.0 c.if-out-n.false c.put_digits.ensures
