@@ -1,4 +1,4 @@
--- `bracket::bracket_at` meets its contract, by the first word of the term's run. The measure is what is left of the run. Assumes nothing.
+-- `bracket::bracket_at` meets its contract, by the first word of the term's run. Assumes nothing.
 use mathlib.Core.Path.{ap, ◌∙◌}
 use native.Mathlib.Omega.{arith}
 use mathlib.Core.List.{[], ◌∷◌}
@@ -18,9 +18,6 @@ put5-requires t c =
     let p = c.requires in
     omega (arith, p.room, ap length (bracket_leaf _ _ _ p.stands c.if-x-eq0.true))
 
-pub shape_of-stack-then-x-eq0 : goal.shape_of-stack-then-x-eq0
-shape_of-stack-then-x-eq0 t c = c.put5.auto.stack
-
 pub returns-then-x-eq0 : goal.returns-then-x-eq0
 returns-then-x-eq0 t c = λ x h l. rw (bracket_leaf _ _ x h c.if-x-eq0.true) c.put5.ensures
 
@@ -39,10 +36,6 @@ put5-requires-then-x-eq1-2 t c =
     let p = c.requires in
     omega (arith, p.room, ap length (bracket_nearest _ _ _ p.stands c.if-x-eq1.true), c.put5-then-x-eq1.auto.stack)
 
-pub shape_of-stack-then-x-eq1 : goal.shape_of-stack-then-x-eq1
-shape_of-stack-then-x-eq1 t c =
-    c.put5-then-x-eq1-2.auto.stack ∙ c.put5-then-x-eq1.auto.stack
-
 pub returns-then-x-eq1 : goal.returns-then-x-eq1
 returns-then-x-eq1 t c = λ x h l.
     rw (bracket_nearest _ _ x h c.if-x-eq1.true) (written_again (10 ∷ 2 ∷ 0 ∷ 2 ∷ []) c.put5-then-x-eq1.ensures c.put5-then-x-eq1-2.ensures)
@@ -54,9 +47,6 @@ pub put5-requires-then-x-eq1-2-2 : goal.put5-requires-then-x-eq1-2-2
 put5-requires-then-x-eq1-2-2 t c =
     let p = c.requires in
     omega (arith, p.room, ap length (bracket_other _ _ _ p.stands c.if-x-eq1.false c.if-x-eq1-2.true))
-
-pub shape_of-stack-then-x-eq1-2 : goal.shape_of-stack-then-x-eq1-2
-shape_of-stack-then-x-eq1-2 t c = c.put5-then-x-eq1-2-2.auto.stack
 
 pub returns-then-x-eq1-2 : goal.returns-then-x-eq1-2
 returns-then-x-eq1-2 t c = λ x h l.
@@ -142,10 +132,6 @@ bracket_at-requires t c =
         short = omega (arith, p.short, same);
       },
     )
-
-pub shape_of-stack : goal.shape_of-stack
-shape_of-stack t c =
-    c.bracket_at.auto.stack ∙ c.put5-2.auto.stack ∙ c.bracket_at-e.auto.stack
 
 pub returns : goal.returns
 returns t c = λ x h l.

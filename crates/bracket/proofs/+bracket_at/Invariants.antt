@@ -1,4 +1,4 @@
--- `bracket::bracket_at` meets its contract, by the first word of the term's run. The measure is what is left of the run. Assumes nothing.
+-- The measure of `bracket::bracket_at`: what is left of the term's run.
 use Prim.Native.Nat.{◌-◌}
 use lib.ListN.{length}
 use Rattle.bracket.proofs.+bracket_at.Given as goal

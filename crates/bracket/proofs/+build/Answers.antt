@@ -1,6 +1,5 @@
--- `bracket::build` meets its contract, by the term's first byte. The measure is what is left of the bytes. Assumes nothing.
+-- `bracket::build` meets its contract, by the term's first byte. Assumes nothing.
 use Prim.Native.Nat.{◌+◌}
-use mathlib.Core.Path.{◌∙◌}
 use native.Mathlib.Omega.{arith}
 use lib.ListN.{length-set}
 use Rattle.calculus.specs.Abstraction.{translate}
@@ -22,9 +21,6 @@ overflow_add-result t c = omega (arith, begins _ _ _ c.requires.stands)
 
 pub overflow_add-result-then-x-eq0 : goal.overflow_add-result-then-x-eq0
 overflow_add-result-then-x-eq0 t c = let p = c.requires in omega (arith, p.room, p.space, p.short, run_pos p.read)
-
-pub shape_of-stack-then-x-eq0 : goal.shape_of-stack-then-x-eq0
-shape_of-stack-then-x-eq0 t c = simp length-set
 
 pub returns-then-x-eq0 : goal.returns-then-x-eq0
 returns-then-x-eq0 t c = λ x h. let p = c.requires in build_leaf _ _ _ _ x h (omega (arith, p.room, p.space, run_pos p.read)) c.if-x-eq0.true
@@ -96,10 +92,6 @@ build-requires t c =
       },
     )
 
-pub shape_of-stack-then-x-eq1 : goal.shape_of-stack-then-x-eq1
-shape_of-stack-then-x-eq1 t c =
-    c.build.auto.stack ∙ simp length-set c.build-f.auto.stack
-
 pub returns-then-x-eq1 : goal.returns-then-x-eq1
 returns-then-x-eq1 t c = λ x h.
     let p = c.requires in
@@ -159,10 +151,6 @@ overflow_add-result-then-x-eq2 t c =
     let r = c.bracket_at-e.ensures (translate k.body) a.stands (body_apart k _ _ p.room) in
     omega (arith, r.end, p.room, p.space, p.short, (abs_run k).1)
 
-pub shape_of-stack-then-x-eq2 : goal.shape_of-stack-then-x-eq2
-shape_of-stack-then-x-eq2 t c =
-    c.copy.auto.stack ∙ c.bracket_at-e.auto.stack ∙ c.build-body.auto.stack
-
 pub returns-then-x-eq2 : goal.returns-then-x-eq2
 returns-then-x-eq2 t c = λ x h.
     let p = c.requires in
@@ -197,9 +185,6 @@ overflow_add-result-2 t c =
 
 pub overflow_add-result-3 : goal.overflow_add-result-3
 overflow_add-result-3 t c = let p = c.requires in omega (arith, p.room, p.space, p.short, run_pos p.read)
-
-pub shape_of-stack : goal.shape_of-stack
-shape_of-stack t c = simp length-set
 
 pub returns : goal.returns
 returns t c = λ x h.

@@ -1,4 +1,4 @@
--- `bracket::build` meets its contract, by the term's first byte. The measure is what is left of the bytes. Assumes nothing.
+-- The measure of `bracket::build`: what is left of the bytes.
 use Prim.Native.Nat.{◌-◌}
 use lib.ListN.{length}
 use Rattle.bracket.proofs.+build.Given as goal

@@ -45,9 +45,6 @@ loop-i-preserved c =
       simp length-set v.2,
     )
 
-pub shape_of-stack : goal.shape_of-stack
-shape_of-stack c = c.loop-i.invariant.2
-
 pub returns : goal.returns
 returns c =
     let a = c.args in

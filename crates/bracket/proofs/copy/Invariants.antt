@@ -1,4 +1,4 @@
--- `bracket::copy` meets its contract. The loop's invariant: the first i words are written. Assumes nothing.
+-- The invariant of the loop of `bracket::copy`, the first i words are written, and its measure.
 use Prim.Native.Nat.{◌-◌, ◌≤◌}
 use mathlib.Core.Path.{◌≡◌}
 use lib.ListN.{length, take, drop}

@@ -17,8 +17,5 @@ bounds-stack-q-4 c = simp length-set (omega arith)
 pub bounds-stack-q-5 : goal.bounds-stack-q-5
 bounds-stack-q-5 c = simp length-set (omega arith)
 
-pub shape_of-stack : goal.shape_of-stack
-shape_of-stack c = simp length-set
-
 pub returns : goal.returns
 returns c = record { end = refl; stored = simp towards_suc }

@@ -1,4 +1,4 @@
--- The invariant of the loop of `machine::uses`: the run goes on at the state that the words and numbers say now.
+-- The invariant of the loop of `machine::uses`, the run goes on at the state that the words and numbers say now, and its measure.
 use Prim.Native.Nat.{◌-◌}
 use Rattle.table.specs.Outcome.{frames}
 use Rattle.frames.specs.Code.{state_of}

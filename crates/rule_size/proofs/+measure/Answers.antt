@@ -1,4 +1,4 @@
--- `rule_size::measure` meets its contract, by the term's first byte. The measure is what is left of the bytes. Assumes nothing.
+-- `rule_size::measure` meets its contract, by the term's first byte. Assumes nothing.
 use Prim.Native.Nat.{◌+◌, ◌-◌}
 use mathlib.Core.Path.{◌≡◌, ◌∙◌}
 use native.Mathlib.Omega.{arith}

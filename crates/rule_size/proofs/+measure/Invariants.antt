@@ -1,4 +1,4 @@
--- `rule_size::measure` meets its contract, by the term's first byte. The measure is what is left of the bytes. Assumes nothing.
+-- The measure of `rule_size::measure`: what is left of the bytes.
 use Prim.Native.Nat.{◌-◌}
 use lib.ListN.{length}
 use Rattle.rule_size.proofs.+measure.Given as goal

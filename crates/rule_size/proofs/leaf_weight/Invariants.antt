@@ -1,4 +1,4 @@
--- `rule_size::leaf_weight` meets its contract. The loop's invariant: u is what a leaf counts under i abstractions. Assumes nothing.
+-- The invariant of the loop of `rule_size::leaf_weight`, u is what a leaf counts under i abstractions, and its measure.
 use Prim.Native.Nat.{◌-◌, ◌≤◌}
 use mathlib.Core.Path.{◌≡◌}
 use Rattle.rule_size.specs.Weight.{leaf_weight}

@@ -9,7 +9,7 @@ pub returns-then-n-eq0 : goal.returns-then-n-eq0
 returns-then-n-eq0 c = empty _ c.if-n-eq0.true
 
 pub returns-then-bytes-ne2 : goal.returns-then-bytes-ne2
-returns-then-bytes-ne2 c = other_first _ c.if-bytes-ne2.true
+returns-then-bytes-ne2 c = other_first c.args.bytes.now c.if-bytes-ne2.true
 
 pub returns-then-t-n : goal.returns-then-t-n
 returns-then-t-n c =

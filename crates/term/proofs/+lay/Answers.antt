@@ -1,4 +1,4 @@
--- `term::lay` meets its contract, by the first word of the tree's run. The measure is what is left of the run. Assumes nothing.
+-- `term::lay` meets its contract, by the first word of the tree's run. Assumes nothing.
 use native.Mathlib.Omega.{arith}
 use Rattle.bracket.proofs.Runs.{begins, ends}
 use Rattle.index.proofs.Ready.{node_ready}

@@ -1,4 +1,4 @@
--- `term::lay` meets its contract, by the first word of the tree's run. The measure is what is left of the run. Assumes nothing.
+-- The measure of `term::lay`: what is left of the tree's run.
 use Prim.Native.Nat.{◌-◌}
 use lib.ListN.{length}
 use Rattle.term.proofs.+lay.Given as goal
