@@ -10,6 +10,9 @@ ghost use Rattle.loads.specs.Loads.{next_state, can_end, allowed, pick, digits_f
 use table::Refusal;
 use ternary::Written;
 
+// How many digits a load has at most.
+const MOST_DIGITS: usize = 4095;
+
 // The state after a draw. No product or sum overflows, since the state has 32 bits.
 fn next_state(state: usize) -> usize
     requires { state < 4294967296 }
@@ -57,7 +60,7 @@ pub fn generate(seed: u32, n: usize, out: &mut [u8]) -> Written
     if n == 0 {
         return Written::Digits(0);
     }
-    if 4095 < n {
+    if MOST_DIGITS < n {
         return Written::Digits(0);
     }
     if out.len() < n {

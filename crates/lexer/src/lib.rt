@@ -6,6 +6,9 @@ ghost use Rattle.std.specs.Prelude.{◌≡◌, ◌+◌, ◌≤◌, ◌<◌, leng
 ghost use Rattle.grammar.specs.Words.{letter, is_sign, lex};
 ghost use Rattle.lexer.specs.Code.{Flushed, Lexes};
 
+// How many letters a name has at most.
+const MOST_LETTERS: usize = 8;
+
 // How many words a text is, or that it spells no tokens at all.
 #[derive(Clone, Copy)]
 pub enum Lexed {
@@ -76,7 +79,7 @@ pub fn lex(text: &[u8], words: &mut [u64]) -> Lexed
     while i < text.len() {
         let b = text[i];
         if is_letter(b) {
-            if k == 8 {
+            if k == MOST_LETTERS {
                 return Lexed::Broken;
             }
             w = w * 256 + b as u64;

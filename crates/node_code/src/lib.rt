@@ -19,13 +19,16 @@ enum Valued {
     Long,
 }
 
+// How many digits the text of a tree that has a code has at most.
+const MOST_DIGITS: usize = 10;
+
 // Takes the digits of a node's tree after `many` others, which have the value `value`. A text may be exponentially long, so it stops after ten digits; no
 // more than eleven calls are open at a time.
 fn take_text(table: &[u32], node: usize, many: usize, value: usize) -> Valued
     requires { InUse table.now node × (many ≤ 10) × (value < padded many 1) }
     ensures { result ≡ taken_text many value (tree_at table.now node) }
 {
-    if many == 10 {
+    if many == MOST_DIGITS {
         return Valued::Long;
     }
     let a = nodes::word(table, node * 2);

@@ -11,6 +11,9 @@ ghost use Rattle.grammar.specs.Outcome.{rule_text};
 use grammar::Encoded;
 use table::Refusal;
 
+// How many bytes a rule text has at most.
+const MOST_BYTES: usize = 8192;
+
 // A text of at most 32 bytes.
 fn read_32(text: &[u8], out: &mut [u8]) -> Encoded
     requires { length text.now ≤ 32 }
@@ -82,7 +85,7 @@ pub fn rule_text(text: &[u8], out: &mut [u8]) -> Encoded
     ensures { whole_out result [] [] out.new ≡ rule_text text.now out.old }
 {
     let n = text.len();
-    if 8192 < n {
+    if MOST_BYTES < n {
         return Encoded::Refused(Refusal::RuleText);
     }
     if n <= 32 {

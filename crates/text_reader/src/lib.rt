@@ -19,6 +19,12 @@ use lexer::Lexed;
 use parser::Parsed;
 use table::Refusal;
 
+// The postfix symbol of an abstraction, with which the symbols of a rule end.
+const ABSTRACTION: u16 = 4;
+
+// How many bytes a rule has at most.
+const MOST_BYTES: usize = 4096;
+
 // Whether no more than 16 abstractions nest in the term whose symbols are the first `end`, so many of them abstractions. Where there are no more at
 // all, none need be followed.
 fn is_shallow(post: &[u16], end: usize, count: usize) -> bool
@@ -38,12 +44,12 @@ fn give(post: &[u16], end: usize, out: &mut [u8]) -> Encoded
     ensures { (e : Expression) → Stands e post.now end
         → whole_out result [] [] out.new ≡ of_bytes (bytes (term_of e)) (rule (bytes (term_of e))) out.old }
 {
-    if post[end - 1] != 4 {
+    if post[end - 1] != ABSTRACTION {
         return Encoded::Refused(Refusal::Rule);
     }
     let sizes = symbols::measure(post, end);
     let n = sizes.bytes;
-    if 4096 < n {
+    if MOST_BYTES < n {
         return Encoded::Refused(Refusal::Rule);
     }
     if !is_shallow(post, end, sizes.abstractions) {

@@ -7,6 +7,9 @@ ghost use Rattle.week_check.specs.Code.{fits};
 
 use week::Window;
 
+// The last minute of a day.
+const LAST_MINUTE: usize = 1439;
+
 // Whether a place may stand after a window that ends at the minute `from`: it is unused, or a window that begins there or later.
 fn fits(from: u32, place: Window) -> bool
     ensures { result ≡ fits from place }
@@ -68,7 +71,7 @@ pub fn passes(week: [[Window; 4]; 7], day: usize, minute: usize) -> bool
     if 6 < day {
         return false;
     }
-    if 1439 < minute {
+    if LAST_MINUTE < minute {
         return false;
     }
     is_week(week)

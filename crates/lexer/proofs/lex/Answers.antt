@@ -14,20 +14,20 @@ bounds-text-i c = omega arith
 pub is_letter-requires : goal.is_letter-requires
 is_letter-requires c = tt
 
-pub shape_of-words-then-k-eq8 : goal.shape_of-words-then-k-eq8
-shape_of-words-then-k-eq8 c = c.loop-i.invariant.same
+pub shape_of-words-then-k-eq-MOST_LETTERS : goal.shape_of-words-then-k-eq-MOST_LETTERS
+shape_of-words-then-k-eq-MOST_LETTERS c = c.loop-i.invariant.same
 
-pub returns-then-k-eq8 : goal.returns-then-k-eq8
-returns-then-k-eq8 c = lexes_broken _ _ _ (lexing_long _ _ _ _ _ _ _ c.loop-i.invariant c.loop-i-test.true (sym c.if-is_letter.true ∙ c.is_letter.ensures) c.if-k-eq8.true)
+pub returns-then-k-eq-MOST_LETTERS : goal.returns-then-k-eq-MOST_LETTERS
+returns-then-k-eq-MOST_LETTERS c = lexes_broken _ _ _ (lexing_long _ _ _ _ _ _ _ c.loop-i.invariant c.loop-i-test.true (sym c.if-is_letter.true ∙ c.is_letter.ensures) c.if-k-eq-MOST_LETTERS.true)
 
 pub overflow_mul-w : goal.overflow_mul-w
-overflow_mul-w c = omega (arith, top_small c.loop-i.k (omega (arith, c.loop-i.invariant.letters, c.if-k-eq8.false)), c.loop-i.invariant.below)
+overflow_mul-w c = omega (arith, top_small c.loop-i.k (omega (arith, c.loop-i.invariant.letters, c.if-k-eq-MOST_LETTERS.false)), c.loop-i.invariant.below)
 
 pub overflow_cast-w : goal.overflow_cast-w
 overflow_cast-w c = omega (arith, c.type_inv.text c.loop-i.i)
 
 pub overflow_add-w : goal.overflow_add-w
-overflow_add-w c = omega (arith, top_small c.loop-i.k (omega (arith, c.loop-i.invariant.letters, c.if-k-eq8.false)), c.loop-i.invariant.below, c.type_inv.text c.loop-i.i)
+overflow_add-w c = omega (arith, top_small c.loop-i.k (omega (arith, c.loop-i.invariant.letters, c.if-k-eq-MOST_LETTERS.false)), c.loop-i.invariant.below, c.type_inv.text c.loop-i.i)
 
 pub overflow_add-k : goal.overflow_add-k
 overflow_add-k c = omega (arith, c.loop-i.invariant.letters)
@@ -39,7 +39,7 @@ pub loop-i-smaller-then-is_letter : goal.loop-i-smaller-then-is_letter
 loop-i-smaller-then-is_letter c = omega arith
 
 pub loop-i-preserved-then-is_letter : goal.loop-i-preserved-then-is_letter
-loop-i-preserved-then-is_letter c = lexing_letter _ _ _ _ _ _ _ c.loop-i.invariant c.loop-i-test.true (sym c.if-is_letter.true ∙ c.is_letter.ensures) c.if-k-eq8.false (omega (arith, c.type_inv.text c.loop-i.i))
+loop-i-preserved-then-is_letter c = lexing_letter _ _ _ _ _ _ _ c.loop-i.invariant c.loop-i-test.true (sym c.if-is_letter.true ∙ c.is_letter.ensures) c.if-k-eq-MOST_LETTERS.false (omega (arith, c.type_inv.text c.loop-i.i))
 
 pub flush-m-requires : goal.flush-m-requires
 flush-m-requires c = omega (arith, c.loop-i.invariant.few, c.loop-i.invariant.within, c.loop-i.invariant.same)

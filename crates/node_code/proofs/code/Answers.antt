@@ -18,21 +18,21 @@ returns-in-Refused c = check_refuses Refused _ (rw c.in-Refused.is at c.check-ch
 
 pub returns-then-used-node : goal.returns-then-used-node
 returns-then-used-node c =
-    let passed : let a = c.args in at_entry true a.table.now a.used [] ≡ none = sym (rw c.in_default.is at c.check-checked.ensures) in
-    no_node _ _ _ (passed) c.if-used-node.true
+    let passed : at_entry true c.args.table.now c.args.used [] ≡ none = sym (rw c.in_default.is at c.check-checked.ensures) in
+    no_node _ _ _ passed c.if-used-node.true
 
 pub take_text-taken-requires : goal.take_text-taken-requires
 take_text-taken-requires c =
-    let passed : let a = c.args in at_entry true a.table.now a.used [] ≡ none = sym (rw c.in_default.is at c.check-checked.ensures) in
+    let passed : at_entry true c.args.table.now c.args.used [] ≡ none = sym (rw c.in_default.is at c.check-checked.ensures) in
     let a = c.args in
-    (record { used = a.used; fine = (entered true a.table.now a.used [] (passed)).table; inside = c.if-used-node.false }, omega arith, padded_least 0 1)
+    (record { used = a.used; fine = (entered true a.table.now a.used [] passed).table; inside = c.if-used-node.false }, omega arith, padded_least 0 1)
 
 pub returns-in-Short : goal.returns-in-Short
 returns-in-Short c =
-    let passed : let a = c.args in at_entry true a.table.now a.used [] ≡ none = sym (rw c.in_default.is at c.check-checked.ensures) in
-    short_coded _ _ _ (passed) c.if-used-node.false (sym c.take_text-taken.ensures ∙ c.in-Short.is) c.place_at_most.ensures
+    let passed : at_entry true c.args.table.now c.args.used [] ≡ none = sym (rw c.in_default.is at c.check-checked.ensures) in
+    short_coded _ _ _ passed c.if-used-node.false (sym c.take_text-taken.ensures ∙ c.in-Short.is) c.place_at_most.ensures
 
 pub returns-in-Long : goal.returns-in-Long
 returns-in-Long c =
-    let passed : let a = c.args in at_entry true a.table.now a.used [] ≡ none = sym (rw c.in_default.is at c.check-checked.ensures) in
-    long_none _ _ _ (passed) c.if-used-node.false (sym c.take_text-taken.ensures ∙ c.in-Long.is)
+    let passed : at_entry true c.args.table.now c.args.used [] ≡ none = sym (rw c.in_default.is at c.check-checked.ensures) in
+    long_none _ _ _ passed c.if-used-node.false (sym c.take_text-taken.ensures ∙ c.in-Long.is)

@@ -6,8 +6,8 @@ use Rattle.week_check.proofs.passes.Goals as goal
 pub returns-then-day-gt6 : goal.returns-then-day-gt6
 returns-then-day-gt6 c = day_above _ _ _ c.if-day-gt6.true
 
-pub returns-then-minute-gt1439 : goal.returns-then-minute-gt1439
-returns-then-minute-gt1439 c = minute_above _ _ _ c.if-day-gt6.false c.if-minute-gt1439.true
+pub returns-then-minute-gt-LAST_MINUTE : goal.returns-then-minute-gt-LAST_MINUTE
+returns-then-minute-gt-LAST_MINUTE c = minute_above _ _ _ c.if-day-gt6.false c.if-minute-gt-LAST_MINUTE.true
 
 pub returns : goal.returns
-returns c = c.is_week.ensures ∙ within _ _ _ c.if-day-gt6.false c.if-minute-gt1439.false
+returns c = c.is_week.ensures ∙ within _ _ _ c.if-day-gt6.false c.if-minute-gt-LAST_MINUTE.false
