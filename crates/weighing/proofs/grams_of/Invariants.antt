@@ -1,5 +1,5 @@
 -- `weighing::grams_of` meets its contract. The loop's invariant: the total is the number of the digits from place i on. Assumes nothing.
-use Prim.Native.Nat.{◌-◌, ◌≤◌}
+use Prim.Native.Nat.{◌≤◌}
 use mathlib.Core.Path.{◌≡◌}
 use lib.ListN.{drop}
 use Rattle.weights.specs.Digits.{grams_of}

@@ -1,6 +1,5 @@
 -- `weight_digits::digit_at` meets its contract. The loop's invariant: the digit of the node is that of d Ks before the tree of the node at hand. Assumes
 -- nothing.
-use Prim.Native.Nat.{◌-◌}
 use mathlib.Core.Path.{refl, sym, ◌∙◌}
 use native.Mathlib.Omega.{arith}
 use Rattle.weights.specs.Digits.{digit_of}

@@ -1,6 +1,5 @@
 -- `weight_digits::read_digits` meets its contract. The loop's invariant: the digits of the node are those that are read and then those of the list at the
 -- node at hand. Assumes nothing.
-use Prim.Native.Nat.{◌-◌}
 use mathlib.Core.Path.{sym}
 use native.Mathlib.Omega.{arith}
 use Rattle.weights.specs.Digits.{digits_of_weight}
