@@ -1,20 +1,16 @@
 -- Laws of the index with one node more, and of what `make` and `settle` answer. Assumes nothing.
-use Prim.Native.Nat.{ℕ, zero, suc, ◌+◌, ◌*◌, ◌/◌, ◌≤◌, ◌<◌}
+use Prim.Native.Nat.{ℕ, ◌+◌, ◌*◌, ◌/◌, ◌≤◌, ◌<◌}
 use mathlib.Core.Path.{◌≡◌, refl, sym, ap, ◌∙◌}
-use mathlib.Core.Bool.{Bool, true, false, not, ◌&&◌}
+use mathlib.Core.Bool.{false}
 use mathlib.Core.List.{List}
-use mathlib.Core.Option.{some}
 use native.Mathlib.Omega.{arith}
-use native.Mathlib.Numerals.{add-one}
 use lib.ListN.{length, set, length-set}
-use lib.Dec.{eqb}
-use borrow.Author.Tests.{eqb-true, eqb-false}
-use Rattle.table.specs.Nodes.{Placed, got, full, capacity, first, second, broken, find, is_none, sound, Sound, new_node, make, cleared}
+use Rattle.table.specs.Nodes.{Placed, got, full, capacity, first, second, broken, Sound, new_node, make, cleared}
 use Rattle.table.specs.Outcome.{whole, placed, stopped, settled}
 use Rattle.table.specs.Claims.{Unbroken}
 use Rattle.table.specs.declared.Refusal.TheVariants.{Nodes}
 use Rattle.table.specs.declared.Made.TheVariants as made
-use Rattle.table.proofs.Words.{told_apart, sound_more, wrote, wrote_other, wrote_first, wrote_second, length_wrote, cleared_all}
+use Rattle.table.proofs.Words.{sound_more, wrote, wrote_other, wrote_first, wrote_second, length_wrote, cleared_all}
 use Rattle.table.proofs.Making.{make_found, make_new, make_full, make_places}
 use Rattle.nodes.specs.Code.{placed_by}
 use Rattle.nodes.specs.declared.NewNode.{NewNode}

@@ -1,6 +1,6 @@
 -- What the code's own values say in terms of the definitions. Assumes nothing: these are definitions.
 use Rattle.std.specs.Prelude.{ℕ, List}
-use Rattle.table.specs.Nodes.{Table, Placed}
+use Rattle.table.specs.Nodes.{Placed}
 use Rattle.nodes.specs.declared.NewNode.{NewNode}
 
 -- a node that was made in a table which has these words now

@@ -1,4 +1,4 @@
--- `index::search` meets its contract. Both loops keep what the entries from the home on up to `at` say: none is empty and none is the node. Assumes nothing.
+-- The invariants and measures of both loops of `index::search`: of the entries from the home on up to `at`, none is empty and none is the node.
 use Prim.Native.Nat.{◌+◌, ◌-◌, ◌≤◌}
 use Rattle.index.proofs.Indexing.{Passed}
 use Rattle.index.proofs.search.Given as goal

@@ -1,4 +1,4 @@
--- `nodes::clear` meets its contract. The loop's invariant: the words from a up to i are cleared. Assumes nothing.
+-- The invariant of the loop of `nodes::clear`, the words from a up to i are cleared, and its measure.
 use Prim.Native.Nat.{◌≤◌, ◌-◌}
 use mathlib.Core.Path.{◌≡◌}
 use Rattle.table.specs.Nodes.{cleared}
