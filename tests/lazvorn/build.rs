@@ -6,7 +6,7 @@ fn main() {
     let archive = folder.join("libffi.a");
     assert!(
         archive.exists(),
-        "no {}: run `rt staticlib ffi` first",
+        "no {}: run `tools/build ffi` first",
         archive.display()
     );
     println!("cargo:rerun-if-changed={}", archive.display());

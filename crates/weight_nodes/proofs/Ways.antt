@@ -22,7 +22,7 @@ use Rattle.weights.specs.Digits.{digits_of, digits_of_weight, add_digits, sum_di
 use Rattle.weights.specs.Weights.{laid_digits, checked_digits, weight, add_weights}
 use Rattle.weights.proofs.Places.{after, put_at, after_put}
 use Rattle.weights.proofs.Weights.{gram_digits_lem, no_gram_digits}
-use Rattle.weights.proofs.Outcomes.{checked_refused, weight_checked, add_refused, add_no_node, add_checked}
+use Rattle.weights.proofs.Outcomes.{weight_checked, add_refused, add_no_node, add_checked}
 use Rattle.weight_digits.specs.Code.{digits_by}
 
 -- the digits X of a number, of which i are made and the rest are those of r

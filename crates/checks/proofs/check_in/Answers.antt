@@ -1,6 +1,7 @@
 -- `checks::check_in` meets its contract: 1, then 2 by the nodes. Assumes nothing.
 use mathlib.Core.Path.{ap}
 use mathlib.Core.Bool.{not}
+use native.Mathlib.Omega.{arith}
 use Rattle.checks.proofs.Entry.{refuses, refused_unfit, may_fill, by_nodes}
 use Rattle.checks.proofs.check_in.Goals as goal
 
@@ -13,7 +14,7 @@ pub fill-requires : goal.fill-requires
 fill-requires c =
     let a = c.args in
     let f = may_fill a.within a.table.now a.used a.stack.now c.fits.ensures (ap not c.if-not-fits.false) in
-    (c.requires, f.0, f.1)
+    (c.requires, f.0, omega (arith, f.1))
 
 pub returns-then-fill : goal.returns-then-fill
 returns-then-fill c =

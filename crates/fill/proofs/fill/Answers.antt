@@ -1,5 +1,5 @@
 -- `fill::fill` meets its contract. The loop keeps: the nodes below i are sound and in the index. Assumes nothing.
-use Prim.Native.Nat.{ℕ, ◌-◌, ◌<◌}
+use Prim.Native.Nat.{ℕ, ◌<◌}
 use mathlib.Core.Path.{◌≡◌, refl, sym, ◌∙◌, subst}
 use native.Mathlib.Omega.{arith}
 use lib.ListN.{length, length-set}
@@ -29,7 +29,7 @@ pub word-b-requires : goal.word-b-requires
 word-b-requires c = omega arith
 
 pub is_broken-requires : goal.is_broken-requires
-is_broken-requires c = (c.word-a.ensures.1, c.word-b.ensures.1)
+is_broken-requires c = (omega (arith, c.word-a.ensures.1), omega (arith, c.word-b.ensures.1))
 
 pub shape_of-index-then-is_broken : goal.shape_of-index-then-is_broken
 shape_of-index-then-is_broken c = c.loop-i.invariant.2
@@ -43,7 +43,7 @@ pub search-requires : goal.search-requires
 search-requires c =
     let l = c.loop-i in
     let o = unbroken l.i _ _ (sym c.is_broken.ensures ∙ c.if-is_broken.false) in
-    (l.invariant.1, c.word-a.ensures.1, c.word-b.ensures.1, o.no_gap)
+    (l.invariant.1, omega (arith, c.word-a.ensures.1), omega (arith, c.word-b.ensures.1), λ e. omega (arith, e, o.no_gap e))
 
 pub shape_of-index-in_default : goal.shape_of-index-in_default
 shape_of-index-in_default c = c.loop-i.invariant.2

@@ -1,6 +1,6 @@
 -- `rule_text::spell` meets its contract: the bytes from the last. Assumes nothing.
 use Rattle.rule_text.specs.Line.{digits}
-use Prim.Native.Nat.{◌*◌, ◌-◌, ◌≤◌}
+use Prim.Native.Nat.{◌*◌, ◌≤◌}
 use mathlib.Core.Path.{◌≡◌}
 use mathlib.Core.List.{◌++◌}
 use lib.ListN.{length, drop}

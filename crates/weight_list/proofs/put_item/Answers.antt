@@ -1,5 +1,4 @@
 -- `weight_list::put_item` meets its contract. The loop's invariant: i Ks are written after the fork's byte. Assumes nothing.
-use Prim.Native.Nat.{◌-◌}
 use mathlib.Core.Path.{◌≡◌, refl, ◌∙◌}
 use native.Mathlib.Omega.{arith}
 use lib.ListN.{length, length-set}

@@ -1,5 +1,4 @@
 -- `weight_list::put_list` meets its contract. The loop's invariant: the first i items are written. Assumes nothing.
-use Prim.Native.Nat.{◌-◌}
 use mathlib.Core.Path.{sym, ◌∙◌}
 use native.Mathlib.Omega.{arith}
 use lib.ListN.{length-set}

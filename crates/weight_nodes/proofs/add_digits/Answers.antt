@@ -1,6 +1,5 @@
 -- `weight_nodes::add_digits` meets its contract. The loop's invariant: the digits of the sum are those that are made and then those of the digits after them
 -- and the carry. Assumes nothing.
-use Prim.Native.Nat.{◌-◌}
 use mathlib.Core.Path.{refl, sym}
 use native.Mathlib.Omega.{arith}
 use Rattle.weights.proofs.Places.{after_none, nine_zeros, put_nine}

@@ -1,6 +1,5 @@
 -- `weight_nodes::digits_of` meets its contract. The loop's invariant: the digits of the number are those that are made and then those of the rest. Assumes
 -- nothing.
-use Prim.Native.Nat.{◌-◌}
 use mathlib.Core.Path.{refl}
 use native.Mathlib.Omega.{arith}
 use lib.ListN.{length-set}

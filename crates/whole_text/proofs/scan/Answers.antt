@@ -1,6 +1,6 @@
 -- `whole_text::scan` meets its contract. The loop's invariant: after the digits before i `wanted` trees are wanted, and `most` at the most before
 -- one of them. Assumes nothing.
-use Prim.Native.Nat.{◌-◌, max}
+use Prim.Native.Nat.{max}
 use mathlib.Core.Path.{◌≡◌}
 use native.Mathlib.Omega.{arith}
 use Rattle.whole_text.specs.Code.{wanted_of, ScanSays}

@@ -1,13 +1,11 @@
 -- `whole_text::wanted_after` meets its contract: the digit's case. Assumes nothing.
 use Prim.Native.Nat.{◌+◌, ◌≤◌}
-use mathlib.Core.Logic.{⊎_elim}
 use mathlib.Core.Path.{◌≡◌}
 use native.Mathlib.Omega.{arith}
 use Rattle.ternary.specs.Wanted.{wanted_after}
 use Rattle.ternary.proofs.Wanted.{after_digit}
 use Rattle.whole_text.specs.Code.{wanted_of}
 use Rattle.whole_text.proofs.Scanning.{after_other}
-use borrow.Author.Rules.{rules}
 use Rattle.whole_text.proofs.wanted_after.Goals as goal
 use Rattle.whole_text.proofs.wanted_after.Goals.{in-48, in-49, in-50}
 
