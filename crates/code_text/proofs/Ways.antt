@@ -5,7 +5,7 @@ use mathlib.Core.Bool.{Bool, true, false}
 use mathlib.Core.List.{List, [], ◌∷◌, ◌++◌, append_assoc}
 use mathlib.Core.Logic.{◌⊎◌, inl, inr}
 use native.Mathlib.Omega.{arith}
-use lib.ListN.{length, get_or, set, drop, length-append}
+use lib.ListN.{length, get_or, set, drop, length-append, length-drop, length-set}
 use lib.Seq.{set_at}
 use lib.Dec.{ltb}
 use borrow.Author.Tests.{ltb-true, ltb-false}
@@ -62,6 +62,14 @@ up_to_last v n out out' e (inr (h, b)) =
     record { digits = []; all = a; bytes = rw z b; many = sym z }
 
 module _ (v n : ℕ) (out out' : List ℕ) (e : n ≡ length (numeral v)) (room : n ≤ length out) (b : BeforeLast v n out out') where
+  pub length_kept : length out' ≡ length out
+  length_kept =
+      let g = up_to_last v n out out' e b in
+      ap length g.bytes ∙ length-append g.digits (drop (n - 1) out) ∙ omega (arith, g.many, some_digit v n e, length-drop (n - 1) out)
+
+  pub length_after : length (set out' (n - 1) (48 + v % 3)) ≡ length out
+  length_after = length-set out' (n - 1) (48 + v % 3) ∙ length_kept
+
   pub last_written : set out' (n - 1) (48 + v % 3) ≡ numeral v ++ drop n out
   last_written =
       let g = up_to_last v n out out' e b in

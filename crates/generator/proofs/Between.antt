@@ -75,6 +75,15 @@ FewestBranches w a = ((w ≡ 1) × (a ≡ 1)) ⊎ ((w ≡ 1 → ⊥) × (a ≡ 0
 abbrev pub MostBranches : ℕ → ℕ → ℕ → Type 0
 MostBranches left w b = ((left + 1 - w < 2) × (b ≡ left + 1 - w)) ⊎ ((2 ≤ left + 1 - w) × (b ≡ 2))
 
+pub fewest_most : (left w a b : ℕ) → (left ≡ 0 → ⊥) → can_end (left + 1) (some w) ≡ true → FewestBranches w a → MostBranches left w b → (a ≤ b) × (b ≤ 2)
+fewest_most left w a b z e f m = go f m (wanted_between left w e)
+  where
+    go : FewestBranches w a → MostBranches left w b → (1 ≤ w) × (w ≤ left + 1) → (a ≤ b) × (b ≤ 2)
+    go (inl (p, q)) (inl (r, s)) h = (omega arith, omega arith)
+    go (inl (p, q)) (inr (r, s)) h = (omega arith, omega arith)
+    go (inr (p, q)) (inl (r, s)) h = (omega arith, omega arith)
+    go (inr (p, q)) (inr (r, s)) h = (omega arith, omega arith)
+
 pub between_taken : (left w draw a b : ℕ) → (left ≡ 0 → ⊥) → can_end (left + 1) (some w) ≡ true → FewestBranches w a → MostBranches left w b → Taken left w draw (a + draw % (b - a + 1))
 unfolding can_end numbers_from
 between_taken left w draw a b z e f m = go w b (wanted_between left w e) f m
