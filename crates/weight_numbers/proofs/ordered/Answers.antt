@@ -1,3 +1,4 @@
+-- `weight_numbers::ordered` meets its contract: each case of the answer. Assumes nothing.
 use Rattle.weights.specs.Weights.{ordered_numbers}
 use Rattle.weight_numbers.proofs.ordered.Goals as goal
 

@@ -1,3 +1,4 @@
+-- `weight_numbers::weighed` meets its contract: each case of the answer. Assumes nothing.
 use Rattle.weights.specs.Weights.{weighed_numbers}
 use Rattle.weight_numbers.proofs.weighed.Goals as goal
 
