@@ -1,19 +1,15 @@
 -- What the code's own values say in terms of the definitions. Assumes nothing: these are definitions.
-use Rattle.std.specs.Prelude.{ℕ, ◌≡◌, List}
-use Rattle.std.proofs.Math.Option.{Option, none, some}
+use Rattle.std.specs.Prelude.{ℕ, ◌≡◌, List, Option, Some, None}
+use Rattle.std.proofs.Math.Option as math
 use Rattle.calculus.specs.Tree.{Tree}
 use Rattle.ternary.specs.Text.{tree_of, most_pending}
-use Rattle.whole_text.specs.declared.Wanted.{Wanted}
-use Rattle.whole_text.specs.declared.Wanted.TheVariants as wanted
-use Rattle.whole_text.specs.declared.Scanned.{Scanned}
-use Rattle.whole_text.specs.declared.Scanned.TheVariants.{Whole, Broken}
 
 -- the number wanted, where there is one
-unfoldable pub wanted_of : Wanted → Option ℕ
-wanted_of (wanted.Trees n) = some n
-wanted_of wanted.Broken = none
+unfoldable pub wanted_of : Option ℕ → math.Option ℕ
+wanted_of (Some n) = math.some n
+wanted_of None = math.none
 
--- what a scan says of a text
-unfoldable pub ScanSays : List ℕ → Scanned → Type 0
-ScanSays l (Whole n) = (t : Tree) × (tree_of l ≡ some t) × (n ≡ most_pending l)
-ScanSays l Broken = tree_of l ≡ none
+-- what a scan says of a text: the most trees pending, where the text is one whole tree
+unfoldable pub ScanSays : List ℕ → Option ℕ → Type 0
+ScanSays l (Some n) = (t : Tree) × (tree_of l ≡ math.some t) × (n ≡ most_pending l)
+ScanSays l None = tree_of l ≡ math.none
