@@ -1,3 +1,2 @@
 -- Laws of the check, one place or one day at a time. Assumes nothing.
-pub mod Places
 pub mod Passing

@@ -6,10 +6,12 @@ use mathlib.Core.List.{List, [], ◌∷◌}
 use native.Mathlib.Omega.{arith}
 use lib.Dec.{leb, eqb}
 use lib.ListN.{length, get_or, drop, drop_of_length-le}
-use borrow.Author.Tests.{leb-true, lt-leb, le-leb, eq-eqb}
+use borrow.Author.Tests.{leb-true, eq-eqb}
+use Rattle.std.specs.List.{list_all}
+use Rattle.std.proofs.lemmas.List.Recursion.{same_from_clauses}
 use Rattle.table.proofs.Words.{told_apart}
 use Rattle.week.specs.declared.Window.{Window}
-use Rattle.week.specs.Weeks.{is_window, is_unused, all_unused, is_day_from, is_day, all_days, is_week, passes}
+use Rattle.week.specs.Weeks.{is_window, is_unused, all_unused, is_day_from, is_day, all_days, is_week}
 use Rattle.table.proofs.Lists.{from_place}
 use Rattle.week.proofs.Days.{window_is, unused_zeros}
 use Rattle.week_check.specs.Code.{fits}
@@ -82,30 +84,7 @@ module _ (day : List Window) (i m : ℕ) (kept : is_day_from 0 day ≡ is_day_fr
   unfolding is_day is_day_from
   day_right l h = let k : length day ≤ i = rw l h in rw (eq-eqb _ _ l, kept, drop_of_length-le day k)
 
--- the days from d on tell whether each day is right
-module _ (week : List (List Window)) (d : ℕ) (kept : all_days week ≡ all_days (drop d week)) where
-  module _ (z : List Window) (h : d < length week) where
-    pub after_day : is_day (get_or week d z) ≡ true → all_days week ≡ all_days (drop (d + 1) week)
-    unfolding all_days
-    after_day e = kept ∙ ap all_days (from_place week d z h) ∙ rw e
-
-    pub week_broken : is_day (get_or week d z) ≡ false → false ≡ is_week week
-    unfolding is_week all_days
-    week_broken e = rw (kept ∙ ap all_days (from_place week d z h), e) (and_false (eqb (length week) 7))
-
-  pub week_right : length week ≡ 7 → 7 ≤ d → true ≡ is_week week
-  unfolding is_week all_days
-  week_right l h = let k : length week ≤ d = rw l h in rw (eq-eqb _ _ l, kept, drop_of_length-le week k)
-
-module _ (week : List (List Window)) (day minute : ℕ) where
-  pub day_above : 6 < day → false ≡ passes week day minute
-  unfolding passes
-  day_above h = rw (lt-leb day 6 h)
-
-  pub minute_above : day ≤ 6 → 1439 < minute → false ≡ passes week day minute
-  unfolding passes
-  minute_above g h = rw (le-leb day 6 g, lt-leb minute 1439 h)
-
-  pub within : day ≤ 6 → minute ≤ 1439 → is_week week ≡ passes week day minute
-  unfolding passes
-  within g h = rw (le-leb day 6 g, le-leb minute 1439 h)
+-- seven days, each of which is right
+pub seven_days : (week : List (List Window)) → length week ≡ 7 → {z : Bool} → z ≡ list_all is_day week → z ≡ is_week week
+unfolding is_week all_days
+seven_days week l e = rw (eq-eqb _ _ l) (e ∙ same_from_clauses (list_all is_day) all_days (λ (d : List Window) (z : Bool). is_day d && z) refl (λ _ _. refl) (λ _ _. refl) week)
