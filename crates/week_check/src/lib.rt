@@ -21,11 +21,11 @@ fn fits(from: u32, place: Window) -> bool
 }
 
 // Whether the windows of a day are right and in order. After an unused place no window begins before the day's end, so that there can be none.
-fn is_day(day: [Window; 4]) -> bool
-    ensures { result ≡ is_day day }
+fn is_day(day: &[Window; 4]) -> bool
+    ensures { result ≡ is_day day.now }
 {
     let mut from = 0;
-    for place in &day {
+    for place in day {
         if !fits(from, *place) {
             return false;
         }
@@ -38,7 +38,7 @@ fn is_day(day: [Window; 4]) -> bool
 fn is_week(week: [[Window; 4]; 7]) -> bool
     ensures { result ≡ is_week week }
 {
-    week.iter().all(|day| is_day(*day))
+    week.iter().all(is_day)
 }
 
 // Whether week, day and minute pass 13.

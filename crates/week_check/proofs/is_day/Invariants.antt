@@ -4,4 +4,4 @@ use Rattle.week.specs.Weeks.{is_day_from}
 use Rattle.week_check.proofs.is_day.Given as goal
 
 abbrev pub invariant-loop-place : goal.invariant-loop-place
-invariant-loop-place l = is_day_from 0 l.place-items ≡ is_day_from l.from (drop l.place-index l.place-items)
+invariant-loop-place l = is_day_from 0 l.day ≡ is_day_from l.from (drop l.place-index l.day)
