@@ -8,11 +8,11 @@ use native.Mathlib.Omega.{arith}
 use native.Mathlib.Numerals.{add-one}
 use lib.ListN.{length, get_or, take, drop, set, length-set, drop_of_length-le}
 use lib.Seq.{drop-cons, take-suc-set}
-use lib.Dec.{eqb, ltb, leb}
-use borrow.Author.Tests.{lt-leb, le-leb, lt-ltb, le-ltb, eq-eqb, ne_eqb, not-true, not-false}
+use lib.Dec.{ltb}
+use borrow.Author.Tests.{lt-ltb, le-ltb, eq-eqb, ne_eqb, not-true, not-false}
 use Rattle.grammar.specs.Words.{letter, flush, before, is_sign, separate, lex}
 use Rattle.lexer.specs.Code.{name_of, Flushed, Lexes}
-use Rattle.lexer.specs.declared.Lexed.TheVariants.{Words, Broken}
+use Rattle.std.specs.Prelude as code
 
 -- words before others
 unfoldable pub prepend : List ℕ → Option (List ℕ) → Option (List ℕ)
@@ -135,7 +135,7 @@ module _ (text words₀ words : List ℕ) (i n k w : ℕ) (v : Lexing text words
         }
 
   pub lexing_done : length text ≤ i → (m : ℕ) (ws : List ℕ) → length ws ≡ length words → Flushed words n k w m ws
-      → Lexes (lex 0 0 text) (length text) ws (Words m)
+      → Lexes (lex 0 0 text) (length text) ws (code.Some m)
   unfolding Lexes lex prepend
   lexing_done h m ws s f = (
     v.leads ∙ ap (λ (x : List ℕ). prepend (take n words) (lex k w x)) (drop_of_length-le text h)
@@ -154,16 +154,6 @@ unfolding name_of
 flushed_name l n zero w e h = absurd (e refl)
 flushed_name l n (suc k) w e h = record { front = rw (add-one, take-suc-set l n w (omega arith)); least = omega arith; most = omega arith; inside = omega arith }
 
-pub lexes_broken : (o : Option (List ℕ)) (n : ℕ) (ws : List ℕ) → o ≡ none → Lexes o n ws Broken
+pub lexes_broken : (o : Option (List ℕ)) (n : ℕ) (ws : List ℕ) → o ≡ none → Lexes o n ws code.None
 unfolding Lexes
 lexes_broken o n ws e = e
-
-pub not_letter_low : (b : ℕ) → b < 97 → false ≡ letter b
-not_letter_low b h = rw (lt-leb 97 b h)
-
-pub letter_rest : (b : ℕ) → 97 ≤ b → (z : Bool) → z ≡ leb b 122 → z ≡ letter b
-letter_rest b h z e = rw (le-leb 97 b h) e
-
-pub sign_last : (b : ℕ) → (b ≡ 94 → ⊥) → (b ≡ 40 → ⊥) → (b ≡ 92 → ⊥) → (b ≡ 41 → ⊥) → (b ≡ 46 → ⊥) → (b ≡ 33 → ⊥) → (b ≡ 38 → ⊥) → (b ≡ 124 → ⊥) → eqb b 62 ≡ is_sign b
-unfolding is_sign
-sign_last b n1 n2 n3 n4 n5 n6 n7 n8 = rw (ne_eqb b 94 n1, ne_eqb b 40 n2, ne_eqb b 92 n3, ne_eqb b 41 n4, ne_eqb b 46 n5, ne_eqb b 33 n6, ne_eqb b 38 n7, ne_eqb b 124 n8)

@@ -1,8 +1,7 @@
 -- What the functions of the reader of text ask and give. Assumes nothing: these are definitions.
 use Rattle.std.specs.Prelude.{ℕ, zero, suc, ◌+◌, ◌≤◌, ◌≡◌, List, [], ◌∷◌, ◌++◌, length, take}
+use Rattle.std.specs.Prelude as code
 use Rattle.std.proofs.Math.Option.{Option, none, some}
-use Rattle.lexer.specs.declared.Lexed.{Lexed}
-use Rattle.lexer.specs.declared.Lexed.TheVariants.{Words, Broken}
 
 -- the word of a name of k letters, where there is one
 unfoldable pub name_of : ℕ → ℕ → List ℕ
@@ -17,6 +16,6 @@ pub record Flushed (l : List ℕ) (n k w r : ℕ) (m : List ℕ) : Type 0 where
   pub inside : r ≤ length l
 
 -- the first r words are those of the text, one a byte at most; or it has none
-unfoldable pub Lexes : Option (List ℕ) → ℕ → List ℕ → Lexed → Type 0
-Lexes o n words (Words r) = (o ≡ some (take r words)) × (r ≤ n) × (r ≤ length words)
-Lexes o n words Broken = o ≡ none
+unfoldable pub Lexes : Option (List ℕ) → ℕ → List ℕ → code.Option ℕ → Type 0
+Lexes o n words (code.Some r) = (o ≡ some (take r words)) × (r ≤ n) × (r ≤ length words)
+Lexes o n words code.None = o ≡ none
