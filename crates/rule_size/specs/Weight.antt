@@ -1,5 +1,5 @@
 -- The size of a rule's tree, counted in one pass over its bytes. Assumes nothing: these are definitions.
-use Rattle.std.specs.Prelude.{ℕ, zero, suc, ◌+◌, ◌-◌, ◌*◌, length}
+use Rattle.std.specs.Prelude.{ℕ, zero, suc, ◌+◌, ◌-◌, ◌*◌, length, Option as Optional, None, Some}
 use Rattle.std.proofs.Math.Option.{Option, none, some}
 use Rattle.calculus.specs.Tree.{size}
 use Rattle.calculus.specs.Term.{Term}
@@ -20,12 +20,12 @@ weight d leaf = leaf_weight d
 weight d (app u v) = weight d u + weight d v
 weight d (var i) = leaf_weight d + 2 * leaf_weight (d - 1 - i)
 
--- a term that was read at `at` under d abstractions: the place after it, and what it counts; 0 and 0 for none
-unfoldable pub measured : ℕ → ℕ → Option Term → Measured
-measured at d none = record { next = 0; weight = 0 }
-measured at d (some t) = record { next = at + length (bytes t); weight = weight d (translate t) }
+-- a term that was read at `at` under d abstractions: the place after it, and what it counts
+unfoldable pub measured : ℕ → ℕ → Option Term → Optional Measured
+measured at d none = None
+measured at d (some t) = Some (record { next = at + length (bytes t); weight = weight d (translate t) })
 
--- the size of a rule's tree, 0 for no rule
-unfoldable pub size_of : Option Term → ℕ
-size_of none = 0
-size_of (some t) = size (rule_tree t)
+-- the size of a rule's tree
+unfoldable pub size_of : Option Term → Optional ℕ
+size_of none = None
+size_of (some t) = Some (size (rule_tree t))
