@@ -6,29 +6,43 @@ use mathlib.Core.List.{List}
 use native.Mathlib.Omega.{arith}
 use lib.Dec.{ltb}
 use borrow.Author.Tests.{lt-ltb, le-ltb, ltb-true, ltb-false}
+use Rattle.std.specs.Prelude.{Result, Ok, Err}
 use Rattle.calculus.specs.Tree.{Tree}
 use Rattle.table.specs.Nodes.{Table, Placed, Making, got, full, capacity, Sound, lay, cleared}
 use Rattle.table.specs.Outcome.{Outcome, whole, frames, zeros, stopped, placed, settled, laid, laid_within}
 use Rattle.table.specs.declared.Refusal.{Refusal}
 use Rattle.table.specs.declared.Refusal.TheVariants.{Nodes, Frames}
 use Rattle.table.specs.declared.Made.{Made}
-use Rattle.table.specs.declared.Made.TheVariants.{Node, Refused}
+use Rattle.table.specs.Refusal.{made, no_node}
 use Rattle.table.specs.Claims.{Places, Lays, Room, Filled}
 use Rattle.table.specs.Claims.Room.{no_nodes, no_frames, enough}
 use Rattle.table.proofs.Words.{zero_one, cleared_none}
 use Rattle.table.proofs.Making.{lay_places, lay_most}
 use Rattle.table.proofs.Entry.{cleared_back}
 
+-- two answers that are equal give the same node and the same count
+node_in : Result Made Refusal → ℕ
+node_in (Ok m) = m.node
+node_in (Err e) = 0
+
+used_in : Result Made Refusal → ℕ
+used_in (Ok m) = m.used
+used_in (Err e) = 0
+
+pub made_is : {n u v w : ℕ} → made n u ≡ made v w → (n ≡ v) × (u ≡ w)
+unfolding node_in used_in
+made_is q = (ap node_in q, ap used_in q)
+
 -- no refusal is a node
-pub refused_made : {A : Type 0} {e : Refusal} {v u : ℕ} → Refused e ≡ Node v u → A
+pub refused_made : {A : Type 0} {e : Refusal} {v u : ℕ} → no_node e ≡ made v u → A
 refused_made q = zero_one (cc)
 
 -- what is placed answers the node and the count
-pub placed_node : (m : Placed) (s : List ℕ) {v u' : ℕ} → (placed m s).answer ≡ Node v u' → (m.node ≡ v) × (m.table.used ≡ u')
+pub placed_node : (m : Placed) (s : List ℕ) {v u' : ℕ} → (placed m s).answer ≡ made v u' → (m.node ≡ v) × (m.table.used ≡ u')
 unfolding placed
-placed_node m s e = (cc, cc)
+placed_node m s e = made_is e
 
-pub placed_answer : (m : Placed) (s : List ℕ) → (placed m s).answer ≡ Node m.node m.table.used
+pub placed_answer : (m : Placed) (s : List ℕ) → (placed m s).answer ≡ made m.node m.table.used
 unfolding placed
 placed_answer m s = refl
 
@@ -41,14 +55,15 @@ unfolding placed
 placed_words m s = refl
 
 -- what the outcome of a tree that is placed says
-pub placed_gives : (w : List ℕ) (u : ℕ) (s : List ℕ) (x : Tree) (v u' : ℕ) {m : Placed} {o : Outcome Made} → Sound (record { words = w; used = u })
-    → lay (record { words = w; used = u }) x ≡ got m → o ≡ placed m s → o.answer ≡ Node v u' → Lays w u x o v u'
+pub placed_gives : (w : List ℕ) (u : ℕ) (s : List ℕ) (x : Tree) (v u' : ℕ) {m : Placed} {o : Outcome (Result Made Refusal)} → Sound (record { words = w; used = u })
+    → lay (record { words = w; used = u }) x ≡ got m → o ≡ placed m s → o.answer ≡ made v u' → Lays w u x o v u'
 unfolding placed
 placed_gives w u s x v u' {m} {o} f l q e =
     let t : Table = record { words = w; used = u } in
-    let a : m.node ≡ v = let y : Node m.node m.table.used ≡ Node v u' = sym (ap (λ (z : Outcome Made). z.answer) q) ∙ e in cc in
-    let b : m.table.used ≡ u' = let y : Node m.node m.table.used ≡ Node v u' = sym (ap (λ (z : Outcome Made). z.answer) q) ∙ e in cc in
-    let c : m.table.words ≡ o.table = sym (ap (λ (z : Outcome Made). z.table) q) in
+    let y : made m.node m.table.used ≡ made v u' = sym (ap (λ (z : Outcome (Result Made Refusal)). z.answer) q) ∙ e in
+    let a : m.node ≡ v = (made_is y).0 in
+    let b : m.table.used ≡ u' = (made_is y).1 in
+    let c : m.table.words ≡ o.table = sym (ap (λ (z : Outcome (Result Made Refusal)). z.table) q) in
     let p : Places t (record { table = record { words = o.table; used = u' }; node = v }) x =
     subst (λ (k : ℕ). Places t (record { table = record { words = o.table; used = u' }; node = k }) x) a
     (subst (λ (k : ℕ). Places t (record { table = record { words = o.table; used = k }; node = m.node }) x) b
@@ -57,10 +72,10 @@ placed_gives w u s x v u' {m} {o} f l q e =
 
 -- "the words of the nodes made in the call" where a table became full: all from the first new node to the capacity
 pub full_outcome : (w : List ℕ) (u : ℕ) (s : List ℕ) {z : Table} → Filled (record { words = w; used = u }) z
-    → stopped (Refused Nodes) z u s ≡ whole (Refused Nodes) (cleared w (u * 2) (capacity w * 2)) (zeros s)
+    → stopped (no_node Nodes) z u s ≡ whole (no_node Nodes) (cleared w (u * 2) (capacity w * 2)) (zeros s)
 unfolding stopped
 full_outcome w u s {z} f =
-    ap (λ (k : List ℕ). whole (Refused Nodes) k (zeros s))
+    ap (λ (k : List ℕ). whole (no_node Nodes) k (zeros s))
     (cleared_back f.extends f.fine.within ∙ ap (λ (k : ℕ). cleared w (u * 2) (k * 2)) f.all_used)
 
 -- the two kinds of a tree laid out
@@ -68,13 +83,13 @@ pub laid_got : (w : List ℕ) (u : ℕ) (s : List ℕ) (x : Tree) {m : Placed} �
 unfolding laid settled
 laid_got w u s x e = rw e
 
-pub laid_full : (w : List ℕ) (u : ℕ) (s : List ℕ) (x : Tree) {z : Table} → lay (record { words = w; used = u }) x ≡ full z → laid w u s x ≡ stopped (Refused Nodes) z u s
+pub laid_full : (w : List ℕ) (u : ℕ) (s : List ℕ) (x : Tree) {z : Table} → lay (record { words = w; used = u }) x ≡ full z → laid w u s x ≡ stopped (no_node Nodes) z u s
 unfolding laid settled
 laid_full w u s x e = rw e
 
 module _ (w : List ℕ) (u : ℕ) (s : List ℕ) (held : ℕ) (x : Tree) where
   -- a refusal for want of frames: nothing was made, so the table is as found
-  pub frames_refused : frames s < held → whole (Refused Frames) w (zeros s) ≡ laid_within w u s held x
+  pub frames_refused : frames s < held → whole (no_node Frames) w (zeros s) ≡ laid_within w u s held x
   unfolding laid_within stopped
   frames_refused q = rw (lt-ltb (frames s) held q, cleared_none w (u * 2))
 

@@ -5,15 +5,12 @@ use mathlib.Core.Path.{◌≡◌, refl}
 use mathlib.Core.Bool.{true, false}
 use mathlib.Core.List.{[], ◌∷◌, map}
 use lib.ListN.{replicate}
+use Rattle.std.specs.Prelude.{Some, None, Ok, Err}
 use Rattle.calculus.specs.Tree.{leaf, stem, fork}
 use Rattle.table.specs.Nodes.{got, full, broken, has_words, find, is_none, sound, new_node, or_new, make, and_then, lay}
 use Rattle.table.specs.Outcome.{whole_out, into_out}
-use Rattle.table.specs.Refusal.{number, refused_numbers, made_numbers, given_numbers, clears}
+use Rattle.table.specs.Refusal.{number, refused_numbers, made, no_node, made_numbers, given_numbers, clears}
 use Rattle.table.specs.Same.{same_numbers}
-use Rattle.table.specs.declared.Compared.TheVariants as compared
-use Rattle.table.specs.declared.Given.TheVariants as goal
-use Rattle.table.specs.declared.Made.TheVariants.{Refused}
-use Rattle.table.specs.declared.Made.TheVariants as made
 use Rattle.table.specs.declared.Refusal.TheVariants.{Limits, Broken, Node, Text, Rule, Packet, Steps, Nodes, Frames, Out, Label, RuleText, Week, Weight}
 
 -- the refusals in the order of their numbers
@@ -29,8 +26,8 @@ unfolding clears number
 clearing = refl
 
 -- "A refusal returns its number, used as at entry, and 0 for node number, steps and digits."
-pub answers : (made_numbers 5 (Refused Nodes) ≡ record { refusal = 8; node = 0; used = 5; steps = 0; digits = 0 })
-    × (made_numbers 5 (made.Node 6 7) ≡ record { refusal = 0; node = 6; used = 7; steps = 0; digits = 0 })
+pub answers : (made_numbers 5 (no_node Nodes) ≡ record { refusal = 8; node = 0; used = 5; steps = 0; digits = 0 })
+    × (made_numbers 5 (made 6 7) ≡ record { refusal = 0; node = 6; used = 7; steps = 0; digits = 0 })
 unfolding made_numbers refused_numbers number
 answers = (refl, refl)
 
@@ -64,11 +61,11 @@ unfolding sound broken find has_words is_none
 equals = (refl, refl)
 
 -- the numbers of a comparison
-pub comparisons : map same_numbers (compared.Equal ∷ compared.Different ∷ compared.Refused Node ∷ []) ≡ (0 ∷ 1 ∷ []) ∷ (0 ∷ 0 ∷ []) ∷ (3 ∷ 0 ∷ []) ∷ []
+pub comparisons : map same_numbers (Ok true ∷ Ok false ∷ Err Node ∷ []) ≡ (0 ∷ 1 ∷ []) ∷ (0 ∷ 0 ∷ []) ∷ (3 ∷ 0 ∷ []) ∷ []
 unfolding same_numbers number
 comparisons = refl
 
 -- a number, none and a refusal as an answer's three numbers
-pub givens : map given_numbers (goal.Number 28 ∷ goal.Nothing ∷ goal.Refused Week ∷ []) ≡ (0 ∷ 1 ∷ 28 ∷ []) ∷ (0 ∷ 0 ∷ 0 ∷ []) ∷ (13 ∷ 0 ∷ 0 ∷ []) ∷ []
+pub givens : map given_numbers (Ok (Some 28) ∷ Ok None ∷ Err Week ∷ []) ≡ (0 ∷ 1 ∷ 28 ∷ []) ∷ (0 ∷ 0 ∷ 0 ∷ []) ∷ (13 ∷ 0 ∷ 0 ∷ []) ∷ []
 unfolding given_numbers number
 givens = refl

@@ -1,13 +1,13 @@
 -- What theorems claim of a table that an operation changed, of a tree that is laid out, and of the checks at entry. Assumes nothing: these are definitions.
-use Rattle.std.specs.Prelude.{ℕ, ◌+◌, ◌*◌, ◌≤◌, ◌<◌, ◌≡◌, Bool, true, false, ◌&&◌, List, length, get_or}
+use Rattle.std.specs.Prelude.{ℕ, ◌+◌, ◌*◌, ◌≤◌, ◌<◌, ◌≡◌, Bool, true, false, ◌&&◌, List, length, get_or, Result}
 use Rattle.std.proofs.Math.Option.{none, some}
 use Rattle.calculus.specs.Tree.{Tree, leaf, stem, fork, size}
 use Rattle.table.specs.Nodes.{Table, Placed, Making, got, full, capacity, first, second, broken, find, Sound, tree_at, new_node, lay}
 use Rattle.table.specs.Outcome.{Outcome, whole, frames, zeros, fits, stopped, placed}
+use Rattle.table.specs.Refusal.{no_node}
 use Rattle.table.specs.declared.Refusal.{Refusal}
 use Rattle.table.specs.declared.Refusal.TheVariants.{Limits, Broken, Nodes, Frames}
 use Rattle.table.specs.declared.Made.{Made}
-use Rattle.table.specs.declared.Made.TheVariants.{Refused}
 
 -- What is known of a node i with words a and b that is not broken.
 pub record Unbroken (i a b : ℕ) : Type 0 where
@@ -85,15 +85,15 @@ pub record MakesOnly (t : Table) (m : Placed) (x : Tree) : Type 0 where
   pub all_there : (y : Tree) → Within y x → (i : ℕ) × Has m.table i y
 
 -- An outcome o that gave node v, of the tree x, in a table that was w with u nodes in use: at most one new node for each of the tree's.
-pub record Lays (w : List ℕ) (u : ℕ) (x : Tree) (o : Outcome Made) (v u' : ℕ) : Type 0 where
+pub record Lays (w : List ℕ) (u : ℕ) (x : Tree) (o : Outcome (Result Made Refusal)) (v u' : ℕ) : Type 0 where
   pub places : Places (record { words = w; used = u }) (record { table = record { words = o.table; used = u' }; node = v }) x
   pub used_most : u' ≤ u + size x
 
 -- "Read, Translate and Label meet it while making nodes, after 9 where there is one." ([8]): the outcome o where a tree x that takes so many frames is to
 -- be laid out. 9 and 8 come only on their conditions; 9 leaves the table as found.
-pub data Room (w : List ℕ) (u : ℕ) (s : List ℕ) (held : ℕ) (x : Tree) (o : Outcome Made) : Type 0 where
-  no_frames : frames s < held → o ≡ whole (Refused Frames) w (zeros s) → Room w u s held x o
-  no_nodes : held ≤ frames s → {z : Table} → lay (record { words = w; used = u }) x ≡ full z → o ≡ stopped (Refused Nodes) z u s → Room w u s held x o
+pub data Room (w : List ℕ) (u : ℕ) (s : List ℕ) (held : ℕ) (x : Tree) (o : Outcome (Result Made Refusal)) : Type 0 where
+  no_frames : frames s < held → o ≡ whole (no_node Frames) w (zeros s) → Room w u s held x o
+  no_nodes : held ≤ frames s → {z : Table} → lay (record { words = w; used = u }) x ≡ full z → o ≡ stopped (no_node Nodes) z u s → Room w u s held x o
   enough : held ≤ frames s → {m : Placed} → lay (record { words = w; used = u }) x ≡ got m → o ≡ placed m s → Room w u s held x o
 
 -- "Numbers 7 to 10 set to 0 the words of the nodes made in the call and the whole stack": of a table that was t and stopped as z, every other word

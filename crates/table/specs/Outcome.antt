@@ -1,13 +1,13 @@
 -- The whole outcome of an operation on lent memory, and the checks and memory effects that the operations share (Operations).
 -- Assumes nothing: these are definitions.
-use Rattle.std.specs.Prelude.{ℕ, ◌*◌, ◌/◌, ◌≤◌, ◌≡◌, Bool, true, cond, ◌&&◌, List, [], ◌++◌, length, replicate, drop, leb, ltb}
+use Rattle.std.specs.Prelude.{ℕ, ◌*◌, ◌/◌, ◌≤◌, ◌≡◌, Bool, true, cond, ◌&&◌, List, [], ◌++◌, length, replicate, drop, leb, ltb, Result}
 use Rattle.std.proofs.Math.Option.{Option, none, some}
 use Rattle.calculus.specs.Tree.{Tree}
 use Rattle.table.specs.Nodes.{Table, Placed, Making, got, full, capacity, sound, Sound, lay, cleared}
+use Rattle.table.specs.Refusal.{made, no_node}
 use Rattle.table.specs.declared.Refusal.{Refusal}
 use Rattle.table.specs.declared.Refusal.TheVariants.{Limits, Broken, Nodes, Frames, Out}
 use Rattle.table.specs.declared.Made.{Made}
-use Rattle.table.specs.declared.Made.TheVariants
 
 -- the answer, and every lent word and byte as the operation leaves it; what an operation is not lent is empty
 pub record Outcome (A : Type 0) : Type 0 where
@@ -66,18 +66,18 @@ unfoldable pub stopped : {A : Type 0} → A → Table → ℕ → List ℕ → O
 stopped a t u s = whole a (cleared t.words (u * 2) (t.used * 2)) (zeros s)
 
 -- "Success also sets the stack to 0, and no other table word than those of new nodes changes."
-unfoldable pub placed : Placed → List ℕ → Outcome Made
-placed p s = whole (TheVariants.Node p.node p.table.used) p.table.words (zeros s)
+unfoldable pub placed : Placed → List ℕ → Outcome (Result Made Refusal)
+placed p s = whole (made p.node p.table.used) p.table.words (zeros s)
 
 -- "Read, Translate and Label meet it while making nodes" ([8]): where a node has no place, those made since u were in use are cleared
-unfoldable pub settled : ℕ → List ℕ → Making → Outcome Made
+unfoldable pub settled : ℕ → List ℕ → Making → Outcome (Result Made Refusal)
 settled u s (got p) = placed p s
-settled u s (full t) = stopped (TheVariants.Refused Nodes) t u s
+settled u s (full t) = stopped (no_node Nodes) t u s
 
 -- a tree laid out, as Read and Translate do
-unfoldable pub laid : List ℕ → ℕ → List ℕ → Tree → Outcome Made
+unfoldable pub laid : List ℕ → ℕ → List ℕ → Tree → Outcome (Result Made Refusal)
 laid w u s t = settled u s (lay (record { words = w; used = u }) t)
 
 -- "after 9 where there is one" ([8]): 9 before a node is made, where a tree takes so many frames, then the tree laid out
-unfoldable pub laid_within : List ℕ → ℕ → List ℕ → ℕ → Tree → Outcome Made
-laid_within w u s held t = cond (ltb (frames s) held) (stopped (TheVariants.Refused Frames) (record { words = w; used = u }) u s) (laid w u s t)
+unfoldable pub laid_within : List ℕ → ℕ → List ℕ → ℕ → Tree → Outcome (Result Made Refusal)
+laid_within w u s held t = cond (ltb (frames s) held) (stopped (no_node Frames) (record { words = w; used = u }) u s) (laid w u s t)

@@ -1,12 +1,10 @@
 -- The refusals' numbers, and the numbers of an answer. Assumes nothing: these are definitions.
-use Rattle.std.specs.Prelude.{ℕ, Bool, ◌&&◌, List, [], ◌∷◌, leb}
+use Rattle.std.specs.Prelude.{ℕ, Bool, ◌&&◌, List, [], ◌∷◌, leb, Some, None, Result, Ok, Err}
+use Rattle.std.specs.Prelude as code
 use Rattle.std.proofs.Math.Option.{Option, none, some}
 use Rattle.table.specs.declared.Refusal.{Refusal}
 use Rattle.table.specs.declared.Refusal.TheVariants.{Limits, Broken, Node, Text, Rule, Packet, Steps, Nodes, Frames, Out, Label, RuleText, Week, Weight}
 use Rattle.table.specs.declared.Made.{Made}
-use Rattle.table.specs.declared.Made.TheVariants
-use Rattle.table.specs.declared.Given.{Given}
-use Rattle.table.specs.declared.Given.TheVariants as given
 
 -- the number that document 01 (Operations, The packet) or document 02 ([1], [3], [6], [9]) gives each refusal
 unfoldable pub number : Refusal → ℕ
@@ -37,21 +35,29 @@ pub record Numbers : Type 0 where
 unfoldable pub refused_numbers : ℕ → Refusal → Numbers
 refused_numbers used e = record { refusal = number e; node = 0; used = used; steps = 0; digits = 0 }
 
+-- the answer that gives node n, with u nodes in use then
+abbrev pub made : ℕ → ℕ → Result Made Refusal
+made n u = Ok (record { node = n; used = u })
+
+-- the answer of the same operation that refuses
+abbrev pub no_node : Refusal → Result Made Refusal
+no_node e = Err e
+
 -- the numbers of Read's, Translate's and Label's answer, with `used` as at entry
-unfoldable pub made_numbers : ℕ → Made → Numbers
-made_numbers used (TheVariants.Node n u) = record { refusal = 0; node = n; used = u; steps = 0; digits = 0 }
-made_numbers used (TheVariants.Refused e) = refused_numbers used e
+unfoldable pub made_numbers : ℕ → Result Made Refusal → Numbers
+made_numbers used (Ok m) = record { refusal = 0; node = m.node; used = m.used; steps = 0; digits = 0 }
+made_numbers used (Err e) = refused_numbers used e
 
 -- a number, "or none", as an answer
-unfoldable pub given_by : Option ℕ → Given
-given_by (some n) = given.Number n
-given_by none = given.Nothing
+unfoldable pub given_by : Option ℕ → Result (code.Option ℕ) Refusal
+given_by (some n) = Ok (Some n)
+given_by none = Ok None
 
 -- the numbers of such an answer: the refusal, 1 if there is a number, and the number
-unfoldable pub given_numbers : Given → List ℕ
-given_numbers (given.Number n) = 0 ∷ 1 ∷ n ∷ []
-given_numbers given.Nothing = 0 ∷ 0 ∷ 0 ∷ []
-given_numbers (given.Refused e) = number e ∷ 0 ∷ 0 ∷ []
+unfoldable pub given_numbers : Result (code.Option ℕ) Refusal → List ℕ
+given_numbers (Ok (Some n)) = 0 ∷ 1 ∷ n ∷ []
+given_numbers (Ok None) = 0 ∷ 0 ∷ 0 ∷ []
+given_numbers (Err e) = number e ∷ 0 ∷ 0 ∷ []
 
 -- "Numbers 1 to 6, and any above 10 added later, leave lent memory as found. Numbers 7 to 10 set to 0 the words of the nodes made in the call and
 -- the whole stack" (Operations): whether a refusal is one that clears memory. Every range of refusals is said by this definition.

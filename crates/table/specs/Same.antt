@@ -1,5 +1,5 @@
 -- Whether two nodes of a table have the same tree (document 02, [8]), and what is claimed of the answer. Assumes nothing: these are definitions.
-use Rattle.std.specs.Prelude.{ℕ, ◌≤◌, ◌<◌, ◌≡◌, Bool, true, false, cond, ◌&&◌, List, [], ◌∷◌, ltb}
+use Rattle.std.specs.Prelude.{ℕ, ◌≤◌, ◌<◌, ◌≡◌, Bool, true, false, cond, ◌&&◌, List, [], ◌∷◌, ltb, Result, Ok, Err}
 use Rattle.std.proofs.Math.Option.{none}
 use Rattle.calculus.specs.Tree.{Tree, leaf, stem, fork}
 use Rattle.table.specs.Nodes.{tree_at}
@@ -8,8 +8,6 @@ use Rattle.table.specs.Refusal.{number}
 use Rattle.table.specs.Claims.{EntryLacks}
 use Rattle.table.specs.declared.Refusal.{Refusal}
 use Rattle.table.specs.declared.Refusal.TheVariants.{Node}
-use Rattle.table.specs.declared.Compared.{Compared}
-use Rattle.table.specs.declared.Compared.TheVariants.{Equal, Different, Refused}
 
 -- whether two trees are equal
 unfoldable pub same_tree : Tree → Tree → Bool
@@ -25,14 +23,14 @@ same_tree (fork p q) (fork r s) = same_tree p r && same_tree q s
 
 -- "Two node numbers are equal exactly when their trees are, and a new operation answers that after 1, 2 and 3." ([8]): nodes a and b of the table w with u
 -- nodes in use. There is no stack.
-unfoldable pub same : List ℕ → ℕ → ℕ → ℕ → Compared
-same w u a b = unless (at_entry true w u []) Refused (cond (ltb a u && ltb b u) (cond (same_tree (tree_at w a) (tree_at w b)) Equal Different) (Refused Node))
+unfoldable pub same : List ℕ → ℕ → ℕ → ℕ → Result Bool Refusal
+same w u a b = unless (at_entry true w u []) Err (cond (ltb a u && ltb b u) (Ok (same_tree (tree_at w a) (tree_at w b))) (Err Node))
 
 -- the numbers of the answer: the refusal, and 1 if the trees are equal
-unfoldable pub same_numbers : Compared → List ℕ
-same_numbers Equal = 0 ∷ 1 ∷ []
-same_numbers Different = 0 ∷ 0 ∷ []
-same_numbers (Refused e) = number e ∷ 0 ∷ []
+unfoldable pub same_numbers : Result Bool Refusal → List ℕ
+same_numbers (Ok true) = 0 ∷ 1 ∷ []
+same_numbers (Ok false) = 0 ∷ 0 ∷ []
+same_numbers (Err e) = number e ∷ 0 ∷ []
 
 -- where there is something to compare: 1, 2 and 3 are passed
 pub record Comparable (w : List ℕ) (u a b : ℕ) : Type 0 where

@@ -3,7 +3,7 @@
 #![tactic(auto)]
 
 // Why an operation was refused. `specs/Refusal.antt` gives the number of each.
-#[derive(Clone, Copy)]
+#[derive(Clone, Copy, Debug, PartialEq, Eq)]
 pub enum Refusal {
     // a length, a count or a limit is too large
     Limits,
@@ -35,25 +35,9 @@ pub enum Refusal {
     Weight,
 }
 
-// The answer of an operation that makes nodes: the node and the new count of used nodes.
-#[derive(Clone, Copy)]
-pub enum Made {
-    Node { node: usize, used: usize },
-    Refused(Refusal),
-}
-
-// The answer of `same`: whether two nodes have the same tree.
-#[derive(Clone, Copy)]
-pub enum Compared {
-    Equal,
-    Different,
-    Refused(Refusal),
-}
-
-// The answer of an operation that gives a number or none.
-#[derive(Clone, Copy)]
-pub enum Given {
-    Number(usize),
-    Nothing,
-    Refused(Refusal),
+// What an operation that makes nodes gives: the node, and the new count of used nodes.
+#[derive(Clone, Copy, Debug, PartialEq, Eq)]
+pub struct Made {
+    pub node: usize,
+    pub used: usize,
 }
