@@ -93,3 +93,16 @@ fields_some l at h e = go (leb (end_at l at) (length l)) refl (fields_from l (en
     go true f none p = no (fields_next l at (leb-true _ _ f) ∙ rw p) refl
     go true f (some fs) p = let q = fields_next l at (leb-true _ _ f) in let z : ◌≡◌ {A = ℕ} 0 1 = cc in omega arith
     go false f x p = no (fields_broken l at h (leb-false _ _ f)) refl
+
+-- What is read of the fields from a position on goes by what stands there: nothing, a field that does not end within the packet, or one that does.
+pub each_case : (l : List ℕ) (at : ℕ) (P : Option (List Field) → Type 0) → (length l ≤ at → P (some [])) → P none
+    → (end_at l at ≤ length l → P (before (record { tag = get_or l at 0; value = value_at l at }) (fields_from l (end_at l at)))) → P (fields_from l at)
+each_case l at P ended broken field = start (leb (length l) at) refl
+  where
+    inside : (z : Bool) → leb (end_at l at) (length l) ≡ z → at < length l → P (fields_from l at)
+    inside true e h = let i = leb-true (end_at l at) (length l) e in rw (fields_next l at i) (field i)
+    inside false e h = rw (fields_broken l at h (leb-false (end_at l at) (length l) e)) broken
+
+    start : (z : Bool) → leb (length l) at ≡ z → P (fields_from l at)
+    start true e = let h = leb-true (length l) at e in rw (fields_end l at h) (ended h)
+    start false e = inside (leb (end_at l at) (length l)) refl (leb-false (length l) at e)

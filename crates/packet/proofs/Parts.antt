@@ -11,22 +11,10 @@ use lib.Dec.{leb, eqb}
 use borrow.Author.Tests.{leb-true, leb-false, eqb-true, eqb-false}
 use Rattle.fields.specs.Packet.{Field, before, Packet, default_limit, high_first, with_argument, after_limit, after_arguments, after_rule, packet}
 use Rattle.packet.specs.Code.{size_at, end_at, value_at, Stand, values_at, fields_from, with_fields, label_size, form_of, label_at, LabelStands, packet_at}
-use Rattle.packet.specs.declared.Form.TheVariants.{Whole, Broken}
-use Rattle.packet.proofs.Fields.{fields_end, fields_broken, fields_next, fields_some}
-use Rattle.packet.proofs.Forms.{packet_long, packet_nothing, packet_tag, packet_after}
-
--- What is read of the fields from a position on goes by what stands there: nothing, a field that does not end within the packet, or one that does.
-each_case : (l : List ℕ) (at : ℕ) (P : Option (List Field) → Type 0) → P (some []) → P none
-    → (end_at l at ≤ length l → P (before (record { tag = get_or l at 0; value = value_at l at }) (fields_from l (end_at l at)))) → P (fields_from l at)
-each_case l at P ended broken field = start (leb (length l) at) refl
-  where
-    inside : (z : Bool) → leb (end_at l at) (length l) ≡ z → at < length l → P (fields_from l at)
-    inside true e h = let i = leb-true (end_at l at) (length l) e in rw (fields_next l at i) (field i)
-    inside false e h = rw (fields_broken l at h (leb-false (end_at l at) (length l) e)) broken
-
-    start : (z : Bool) → leb (length l) at ≡ z → P (fields_from l at)
-    start true e = rw (fields_end l at (leb-true (length l) at e)) ended
-    start false e = inside (leb (end_at l at) (length l)) refl (leb-false (length l) at e)
+use Rattle.std.proofs.Common as code
+use Rattle.packet.specs.declared.Form.{Form}
+use Rattle.packet.proofs.Fields.{fields_next, fields_some, each_case}
+use Rattle.packet.proofs.Forms.{no_form, packet_long, packet_nothing, packet_tag, packet_after}
 
 -- a label that is read is the value of a field that ends with the packet
 abbrev LabelOf : List ℕ → Option (List ℕ) → Type 0
@@ -40,7 +28,7 @@ EndOf l q (some p) = (p.rule ≡ q) × (p.arguments ≡ []) × LabelOf l p.label
 
 limit_ends : (l : List ℕ) (at : ℕ) (q : List ℕ) (n : ℕ) → EndOf l q (with_fields (after_limit q n) (fields_from l at))
 unfolding with_fields after_limit before
-limit_ends l at q n = each_case l at (λ (x : Option (List Field)). EndOf l q (with_fields (after_limit q n) x)) (refl, refl, tt) tt (λ h. field h (fields_from l (end_at l at)) refl)
+limit_ends l at q n = each_case l at (λ (x : Option (List Field)). EndOf l q (with_fields (after_limit q n) x)) (λ h. (refl, refl, tt)) tt (λ h. field h (fields_from l (end_at l at)) refl)
   where
     f : Field
     f = record { tag = get_or l at 0; value = value_at l at }
@@ -65,7 +53,7 @@ limit_ends l at q n = each_case l at (λ (x : Option (List Field)). EndOf l q (w
 arguments_ends : (l : List ℕ) (at : ℕ) (q : List ℕ) → EndOf l q (with_fields (after_arguments q) (fields_from l at))
 unfolding with_fields after_arguments after_limit before
 arguments_ends l at q =
-    each_case l at (λ (x : Option (List Field)). EndOf l q (with_fields (after_arguments q) x)) (refl, refl, tt) tt
+    each_case l at (λ (x : Option (List Field)). EndOf l q (with_fields (after_arguments q) x)) (λ h. (refl, refl, tt)) tt
     (λ h. field (fields_from l (end_at l at)) (limit_ends l (end_at l at) q) (λ n. rw (fields_next l at h) at (limit_ends l at q n)))
   where
     f : Field
@@ -104,7 +92,7 @@ after_parts l at q zero = go (fields_from l at) (ends_parts l at q 0 (with_field
     go none h = tt
     go (some fs) h = h
 after_parts l at q (suc j) =
-    each_case l at (λ (x : Option (List Field)). PartsOf l at q (suc j) (with_fields (after_rule q (suc j)) x)) ended tt
+    each_case l at (λ (x : Option (List Field)). PartsOf l at q (suc j) (with_fields (after_rule q (suc j)) x)) (λ h. ended) tt
     (λ h. field h (fields_from l (end_at l at)) (after_parts l (end_at l at) q j) (rw (fields_next l at h) at (ends_parts l at q (suc j) (with_fields (after_arguments q) (fields_from l at)) (arguments_ends l at q))))
   where
     f : Field
@@ -126,45 +114,45 @@ after_parts l at q (suc j) =
         go true = argument h (after_rule q j fs) y
         go false = e
 
--- the label's field by its size
-pub label_at_lem : (l : List ℕ) (m : ℕ) → (m ≡ 0 → ⊥) → label_at l m ≡ some (value_at l (length l - m))
-unfolding label_at
-label_at_lem l zero h = absurd (h refl)
-label_at_lem l (suc m) h = refl
-
+-- a label's field by its size
 label_found : (l : List ℕ) (v : Option (List ℕ)) → LabelOf l v → (v ≡ label_at l (label_size v)) × LabelStands l (label_size v)
-unfolding label_size label_at
-label_found l none h = (refl, λ p. absurd (p refl))
+unfolding label_size label_at LabelStands
+label_found l none h = (refl, tt)
 label_found l (some v) h =
     let from = h.0 in
     let a : length v ≡ size_at l from = ap length h.2 ∙ length-take-le (size_at l from) (drop (from + 3) l) (omega (arith, length-drop (from + 3) l, h.1)) in
     let b : length l - (3 + length v) ≡ from = omega (arith, h.1) in
-    (rw (label_at_lem l (3 + length v) (λ e. omega arith), b, ← h.2), λ p. (omega (arith, h.1), rw b h.1))
+    (rw (b, ← h.2), (omega (arith, h.1), rw b h.1))
 
--- a packet with k arguments, the limit n and m bytes of a label's field: its fields stand in its bytes one after another, the label's at their end
-pub record Parts (l : List ℕ) (k n m : ℕ) : Type 0 where
+-- a packet with k arguments, the limit n and a label's field of m bytes, or none: its fields stand in its bytes one after another, the label's at their end
+pub record Parts (l : List ℕ) (k n : ℕ) (m : code.Option ℕ) : Type 0 where
   pub is_packet : packet l ≡ some (packet_at l k n m)
   pub rule_stands : end_at l 0 ≤ length l
   pub stand : Stand l (end_at l 0) k
   pub few : k ≤ 8
   pub label_stands : LabelStands l m
 
+form_same : {f g : Form} → code.Some f ≡ code.Some g → f ≡ g
+form_same e = cc
+
 -- What the form that the code reads says: "First tag 1, a rule; then none to eight of tag 2" (The packet), each value a part of the packet, which "may end
 -- with one field of tag 4" ([1]).
-pub packet_parts : (l : List ℕ) (k n m : ℕ) → Whole k n m ≡ form_of (packet l) → Parts l k n m
+pub packet_parts : (l : List ℕ) (k n : ℕ) (m : code.Option ℕ) → code.Some (record { arguments = k; limit = n; label_size = m }) ≡ form_of (packet l) → Parts l k n m
 unfolding form_of
 packet_parts l k n m e = short (leb (length l) 16384) refl
   where
-    no : Broken ≡ form_of (packet l) → Parts l k n m
-    no f = let z : ◌≡◌ {A = ℕ} 0 1 = cc in absurd (omega arith)
+    no : code.None ≡ form_of (packet l) → Parts l k n m
+    no f = absurd (no_form {A = Form} {x = record { arguments = k; limit = n; label_size = m }} (cc))
 
     is : end_at l 0 ≤ length l → (x : Option Packet) → packet l ≡ x → PartsOf l (end_at l 0) (value_at l 0) 8 x → Parts l k n m
     is h none p y = no (rw p)
     is h (some p) f y =
-        let g : Whole k n m ≡ Whole (length p.arguments) p.limit (label_size p.label) = e ∙ rw f in
-        let a : k ≡ length p.arguments = cc in
-        let b : n ≡ p.limit = cc in
-        let c : m ≡ label_size p.label = cc in
+        let g : code.Some (record { arguments = k; limit = n; label_size = m })
+        ≡ code.Some (record { arguments = length p.arguments; limit = p.limit; label_size = label_size p.label }) = e ∙ rw f in
+        let same = form_same g in
+        let a : k ≡ length p.arguments = ap (λ (x : Form). x.arguments) same in
+        let b : n ≡ p.limit = ap (λ (x : Form). x.limit) same in
+        let c : m ≡ label_size p.label = ap (λ (x : Form). x.label_size) same in
         let v = label_found l p.label y.4 in
         record { is_packet = f ∙ rw (a, b, c, ← v.0, ← y.1, ← y.0); rule_stands = h; stand = rw a y.2; few = omega arith; label_stands = rw c v.1 }
 

@@ -1,12 +1,10 @@
 -- Where the fields of a packet stand, and what the code's own values say in terms of the definitions. Assumes nothing: these are definitions.
 use Rattle.std.specs.Prelude.{ℕ, zero, suc, ◌+◌, ◌-◌, ◌*◌, ◌≤◌, ◌≡◌, cond, List, [], ◌∷◌, length, get_or, take, drop, leb}
+use Rattle.std.specs.Prelude as code
 use Rattle.std.proofs.Math.Option.{Option, none, some}
 use Rattle.fields.specs.Packet.{Field, fields, Packet}
 use Rattle.packet.specs.declared.Part.{Part}
 use Rattle.packet.specs.declared.Form.{Form}
-use Rattle.packet.specs.declared.Form.TheVariants.{Whole, Broken}
-use Rattle.packet.specs.declared.Found.{Found}
-use Rattle.packet.specs.declared.Found.TheVariants as found
 
 -- the length that the field at a position names, where its value ends, and its value
 abbrev pub size_at : List ℕ → ℕ → ℕ
@@ -30,9 +28,9 @@ unfoldable pub values_at : List ℕ → ℕ → ℕ → List (List ℕ)
 values_at l at zero = []
 values_at l at (suc k) = value_at l at ∷ values_at l (end_at l at) k
 
--- the field at a position
-unfoldable pub found_at : List ℕ → ℕ → Found
-found_at l at = cond (leb (end_at l at) (length l)) (found.Field (get_or l at 0) (end_at l at)) found.Nothing
+-- where the field at a position ends, if that is within the packet
+unfoldable pub end_in : List ℕ → ℕ → code.Option ℕ
+end_in l at = cond (leb (end_at l at) (length l)) (code.Some (end_at l at)) code.None
 
 -- all fields from a position on
 abbrev pub fields_from : List ℕ → ℕ → Option (List Field)
@@ -43,29 +41,30 @@ unfoldable pub with_fields : (List Field → Option Packet) → Option (List Fie
 with_fields next none = none
 with_fields next (some fs) = next fs
 
--- how many bytes of the packet the label's field has, 0 where there is none
-unfoldable pub label_size : Option (List ℕ) → ℕ
-label_size none = 0
-label_size (some v) = 3 + length v
+-- how many bytes of the packet the label's field has, where there is one
+unfoldable pub label_size : Option (List ℕ) → code.Option ℕ
+label_size none = code.None
+label_size (some v) = code.Some (3 + length v)
 
--- what a packet's form says of it: broken where there is none
-unfoldable pub form_of : Option Packet → Form
-form_of none = Broken
-form_of (some p) = Whole (length p.arguments) p.limit (label_size p.label)
+-- what a packet's form says of it, where it is one
+unfoldable pub form_of : Option Packet → code.Option Form
+form_of none = code.None
+form_of (some p) = code.Some (record { arguments = length p.arguments; limit = p.limit; label_size = label_size p.label })
 
 -- the form with k arguments more
-unfoldable pub counted : ℕ → Form → Form
-counted k Broken = Broken
-counted k (Whole j n m) = Whole (k + j) n m
+unfoldable pub counted : ℕ → code.Option Form → code.Option Form
+counted k code.None = code.None
+counted k (code.Some f) = code.Some (record { arguments = k + f.arguments; limit = f.limit; label_size = f.label_size })
 
--- The label's text where its field is the last m bytes of the packet, or none where m is 0; and that the field stands there.
-unfoldable pub label_at : List ℕ → ℕ → Option (List ℕ)
-label_at l zero = none
-label_at l (suc m) = some (value_at l (length l - suc m))
+-- The label's text where its field is the last m bytes of the packet, or none; and that the field stands there.
+unfoldable pub label_at : List ℕ → code.Option ℕ → Option (List ℕ)
+label_at l code.None = none
+label_at l (code.Some m) = some (value_at l (length l - m))
 
-abbrev pub LabelStands : List ℕ → ℕ → Type 0
-LabelStands l m = (m ≡ 0 → ⊥) → (m ≤ length l) × (end_at l (length l - m) ≡ length l)
+unfoldable pub LabelStands : List ℕ → code.Option ℕ → Type 0
+LabelStands l code.None = Unit {0}
+LabelStands l (code.Some m) = (m ≤ length l) × (end_at l (length l - m) ≡ length l)
 
--- a packet with k arguments, the limit n and m bytes of a label's field, by where its fields stand
-abbrev pub packet_at : List ℕ → ℕ → ℕ → ℕ → Packet
+-- a packet with k arguments, the limit n and a label's field of this size, by where its fields stand
+abbrev pub packet_at : List ℕ → ℕ → ℕ → code.Option ℕ → Packet
 packet_at l k n m = record { rule = value_at l 0; arguments = values_at l (end_at l 0) k; limit = n; label = label_at l m }

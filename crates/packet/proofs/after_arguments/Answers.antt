@@ -1,38 +1,45 @@
 -- `packet::after_arguments` meets its contract: what is no limit may be a label, and a broken limit is refused. Assumes nothing.
-use mathlib.Core.Path.{◌≡◌, refl, ◌∙◌}
+use mathlib.Core.Path.{sym, ap, ◌∙◌}
 use native.Mathlib.Omega.{arith}
-use Prim.Native.Nat.{◌+◌}
-use Rattle.packet.specs.Code.{end_at}
-use Rattle.packet.proofs.Forms.{arguments_other, arguments_size, arguments_most, arguments_limit}
+use Rattle.packet.specs.Code.{form_of, counted}
+use Rattle.packet.proofs.Forms.{is_no_end, is_end, left_broken, arguments_other, arguments_size, arguments_most, arguments_limit}
+use Rattle.packet.proofs.after_arguments.Goals.{then-at-packet-via-then-at-packet, then-at-packet-via-else-at-packet+then-packet-at-ne3}
 use Rattle.packet.proofs.after_arguments.Goals as goal
 
-pub returns-then-packet-at-ne3 : goal.returns-then-packet-at-ne3
-returns-then-packet-at-ne3 c =
+pub returns-then-at-packet : goal.returns-then-at-packet
+returns-then-at-packet c =
     let a = c.args in
-    λ q. c.after_limit.ensures q ∙ arguments_other a.packet.now a.at a.count c.requires q c.if-packet-at-ne3.true
+    λ q. c.after_limit.ensures q ∙ ap (λ x. counted a.count (form_of x)) (arguments_other a.packet.now a.at q (λ h e. elim c.then-at-packet.branch [
+      | then-at-packet-via-then-at-packet w ↦ omega arith
+      | then-at-packet-via-else-at-packet+then-packet-at-ne3 w ↦ w.if-packet-at-ne3.true e
+    ]))
 
-pub overflow_add-start : goal.overflow_add-start
-overflow_add-start c = rw c.part_at-part.ensures (omega arith)
-
-pub returns-then-end-start : goal.returns-then-end-start
-returns-then-end-start c =
+pub returns-in_err-end : goal.returns-in_err-end
+returns-in_err-end c =
     let a = c.args in
-    λ q. arguments_size a.packet.now a.at a.count c.requires q c.if-packet-at-ne3.false (rw c.part_at-part.ensures at c.if-end-start.true)
+    λ q. c.from_residual.ensures ∙ left_broken a.packet.now a.at a.count q _ (omega arith) (is_no_end a.packet.now a.at c.in_err-end.ensures)
+
+pub returns-then-end-at : goal.returns-then-end-at
+returns-then-end-at c =
+    let a = c.args in
+    let g = is_end a.packet.now a.at _ c.in_ok-end.ensures in
+    λ q. arguments_size a.packet.now a.at a.count g.1 q c.if-packet-at-ne3.false (λ e. c.if-end-at.true (g.0 ∙ e))
 
 pub four_bytes-limit-requires : goal.four_bytes-limit-requires
-four_bytes-limit-requires c =
-    let e : end_at c.args.packet.now c.args.at ≡ c.args.at + 3 + 4 = rw c.part_at-part.ensures at c.if-end-start.false in
-    rw c.part_at-part.ensures (omega (arith, c.requires))
+four_bytes-limit-requires c = let g = is_end c.args.packet.now c.args.at _ c.in_ok-end.ensures in omega arith
 
 pub returns-then-limit-gt1000000 : goal.returns-then-limit-gt1000000
 returns-then-limit-gt1000000 c =
     let a = c.args in
-    λ q. arguments_most a.packet.now a.at a.count c.requires q c.if-packet-at-ne3.false (rw c.part_at-part.ensures at c.if-end-start.false) _ (rw c.part_at-part.ensures at c.four_bytes-limit.ensures) c.if-limit-gt1000000.true
+    let g = is_end a.packet.now a.at _ c.in_ok-end.ensures in
+    λ q. arguments_most a.packet.now a.at a.count g.1 q c.if-packet-at-ne3.false (sym g.0 ∙ c.if-end-at.false) _ c.four_bytes-limit.ensures c.if-limit-gt1000000.true
 
 pub after_limit-requires-2 : goal.after_limit-requires-2
-after_limit-requires-2 c = rw c.part_at-part.ensures c.requires
+after_limit-requires-2 c = let g = is_end c.args.packet.now c.args.at _ c.in_ok-end.ensures in omega arith
 
 pub returns : goal.returns
 returns c =
     let a = c.args in
-    λ q. c.after_limit-2.ensures q ∙ rw c.part_at-part.ensures (arguments_limit a.packet.now a.at a.count c.requires q c.if-packet-at-ne3.false (rw c.part_at-part.ensures at c.if-end-start.false) _ (rw c.part_at-part.ensures at c.four_bytes-limit.ensures) c.if-limit-gt1000000.false refl)
+    let g = is_end a.packet.now a.at _ c.in_ok-end.ensures in
+    λ q. c.after_limit-2.ensures q
+    ∙ arguments_limit a.packet.now a.at a.count g.1 q c.if-packet-at-ne3.false (sym g.0 ∙ c.if-end-at.false) _ c.four_bytes-limit.ensures c.if-limit-gt1000000.false g.0

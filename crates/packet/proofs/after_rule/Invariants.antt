@@ -8,9 +8,6 @@ use Rattle.fields.specs.Packet.{after_rule}
 use Rattle.packet.specs.Code.{fields_from, with_fields, form_of, counted}
 use Rattle.packet.proofs.after_rule.Given as goal
 
-abbrev pub invariant-loop-at : goal.invariant-loop-at
-invariant-loop-at l = (l.at ≤ length l.packet) × (l.count ≤ 8)
+abbrev pub invariant-loop-count : goal.invariant-loop-count
+invariant-loop-count l = (l.at ≤ length l.packet)
     × ((q : List ℕ) → counted l.count (form_of (with_fields (after_rule q (8 - l.count)) (fields_from l.packet l.at))) ≡ form_of (with_fields (after_rule q 8) (fields_from l.packet l.from)))
-
-abbrev pub decreases-loop-at : goal.decreases-loop-at
-decreases-loop-at l = length l.packet - l.at
