@@ -2,7 +2,7 @@
 // and give in its terms. Assumes nothing.
 #![tactic(auto)]
 
-ghost use Rattle.std.specs.Prelude.{ℕ, ◌≤◌, ◌<◌, List, length};
+ghost use Rattle.std.specs.Prelude.{◌≡◌, ℕ, ◌≤◌, ◌<◌, List, length};
 ghost use Rattle.grammar.specs.Expression.{Expression};
 ghost use Rattle.grammar.specs.Postfix.{postfix, lead};
 ghost use Rattle.encoder.specs.Code.{Laid, EncodeAsks, EncodeAt, EncodeGives};
@@ -14,66 +14,60 @@ pub struct Begins {
     pub at: usize,
 }
 
+// The symbols, which are the numbers of the definitions `postfix` and `lead` of the crate `grammar`: 6 is a leaf, and a variable is its number and `VARIABLE`.
+const APPLICATION: u16 = 0;
+
+const AND: u16 = 1;
+
+const OR: u16 = 2;
+
+const IMPLIES: u16 = 3;
+
+const ABSTRACTION: u16 = 4;
+
+const NOT: u16 = 5;
+
+const VARIABLE: u16 = 7;
+
 // Copies bytes to the place that ends at `o`; where they begin.
 fn put_before(out: &mut [u8], o: usize, bytes: &[u8]) -> usize
     requires { (length bytes.now ≤ o) × (o ≤ length out.old) }
     ensures { Laid out.old o bytes.now result out.new }
 {
-    let n = bytes.len();
-    let from = o - n;
-    let mut i = n;
-    while 0 < i {
-        i -= 1;
-        out[from + i] = bytes[i];
-    }
+    let from = o - bytes.len();
+    out[from..o].copy_from_slice(bytes);
     from
 }
 
-// The bytes that a symbol puts before its operands, up to `o`: of an operator those of applying its tree.
+// The bytes that a symbol which is no variable puts before its operands: of an operator those of applying its tree.
+fn fixed_lead(s: u16) -> &'static [u8]
+    requires { s < 7 }
+    ensures { result.now ≡ lead s }
+{
+    match s {
+        APPLICATION => b"\x01",
+        AND =>
+            b"\x01\x01\x01\x00\x01\x00\x01\x01\x00\x00\x01\x01\x00\x00\x01\x01\x00\x01\x00\x00\x01\x00\x00",
+        OR =>
+            b"\x01\x01\x01\x01\x00\x01\x00\x01\x01\x00\x00\x01\x00\x00\x01\x01\x00\x01\x00\x00\x01\x00\x00",
+        IMPLIES => b"\x01\x01\x01\x00\x01\x00\x01\x01\x00\x00\x01\x00\x00",
+        ABSTRACTION => b"\x02",
+        NOT =>
+            b"\x01\x01\x01\x00\x01\x00\x01\x01\x00\x00\x01\x00\x00\x01\x01\x00\x01\x00\x01\x01\x00\x00\x01\x01\x00\x00\x01\x01\x00\x01\x00\x00\x01\x00\x00\x01\x01\x00\x01\x00\x00\x01\x00\x00",
+        _ => b"\x00",
+    }
+}
+
+// Writes the bytes that a symbol puts before its operands, up to `o`; where they begin.
 fn put_lead(out: &mut [u8], o: usize, s: u16) -> usize
     requires { (length (lead s) ≤ o) × (o ≤ length out.old) × (s < 263) }
     ensures { Laid out.old o (lead s) result out.new }
 {
-    if s == 0 {
-        return put_before(out, o, b"\x01");
+    if s < VARIABLE {
+        put_before(out, o, fixed_lead(s))
+    } else {
+        put_before(out, o, &[3, (s - VARIABLE) as u8])
     }
-    if s == 1 {
-        return put_before(
-            out,
-            o,
-            b"\x01\x01\x01\x00\x01\x00\x01\x01\x00\x00\x01\x01\x00\x00\x01\x01\x00\x01\x00\x00\x01\x00\x00",
-        );
-    }
-    if s == 2 {
-        return put_before(
-            out,
-            o,
-            b"\x01\x01\x01\x01\x00\x01\x00\x01\x01\x00\x00\x01\x00\x00\x01\x01\x00\x01\x00\x00\x01\x00\x00",
-        );
-    }
-    if s == 3 {
-        return put_before(
-            out,
-            o,
-            b"\x01\x01\x01\x00\x01\x00\x01\x01\x00\x00\x01\x00\x00",
-        );
-    }
-    if s == 4 {
-        return put_before(out, o, b"\x02");
-    }
-    if s == 5 {
-        return put_before(
-            out,
-            o,
-            b"\x01\x01\x01\x00\x01\x00\x01\x01\x00\x00\x01\x00\x00\x01\x01\x00\x01\x00\x01\x01\x00\x00\x01\x01\x00\x00\x01\x01\x00\x01\x00\x00\x01\x00\x00\x01\x01\x00\x01\x00\x00\x01\x00\x00",
-        );
-    }
-    if s == 6 {
-        return put_before(out, o, b"\x00");
-    }
-    out[o - 1] = (s - 7) as u8;
-    out[o - 2] = 3;
-    o - 2
 }
 
 // Writes the bytes, up to `o`, of the term whose symbols end at `p`.
@@ -83,21 +77,21 @@ pub fn encode(post: &[u16], p: usize, out: &mut [u8], o: usize) -> Begins
         → EncodeGives e xs out.old o result.from result.at out.new }
 {
     let s = post[p - 1];
-    if s < 4 {
-        let a = encode(post, p - 1, out, o);
-        let mid = a.from;
-        let place = a.at;
-        let f = encode(post, mid, out, place);
-        let end = f.at;
-        let at = put_lead(out, end, s);
-        return Begins { from: f.from, at };
+    match s {
+        APPLICATION | AND | OR | IMPLIES => {
+            let a = encode(post, p - 1, out, o);
+            let f = encode(post, a.from, out, a.at);
+            let at = put_lead(out, f.at, s);
+            Begins { from: f.from, at }
+        }
+        ABSTRACTION | NOT => {
+            let b = encode(post, p - 1, out, o);
+            let at = put_lead(out, b.at, s);
+            Begins { from: b.from, at }
+        }
+        _ => {
+            let at = put_lead(out, o, s);
+            Begins { from: p - 1, at }
+        }
     }
-    if s < 6 {
-        let b = encode(post, p - 1, out, o);
-        let end = b.at;
-        let at = put_lead(out, end, s);
-        return Begins { from: b.from, at };
-    }
-    let at = put_lead(out, o, s);
-    Begins { from: p - 1, at }
 }

@@ -19,6 +19,13 @@ lead_var s t =
     let e : s ≡ suc (suc (suc (suc (suc (suc (suc (s - 7))))))) = omega arith in
     ap (λ (i : ℕ). length (lead i)) e
 
+pub lead_two : (s : ℕ) → 1 ≤ s → s ≤ 2 → length (lead s) ≡ 23
+unfolding lead bytes K I stem_of_stem and_tree or_tree
+lead_two zero h g = absurd (omega arith)
+lead_two (suc zero) h g = refl
+lead_two (suc (suc zero)) h g = refl
+lead_two (suc (suc (suc s))) h g = absurd (omega arith)
+
 -- the last symbol
 pub record Last (post : List ℕ) (p : ℕ) (zs : List ℕ) (s : ℕ) : Type 0 where
   pub some : 0 < p
@@ -73,16 +80,6 @@ total_postfix (or a b) =
 total_postfix (implies a b) =
     omega (arith, total_two (postfix a) (postfix b) 3, total_postfix a, total_postfix b, length-append (1 ∷ (bytes implies_tree ++ bytes (term_of a))) (bytes (term_of b)), length-append (bytes implies_tree) (bytes (term_of a)))
 
-pub seven : (s : ℕ) → (s ≡ 0 → ⊥) → (s ≡ 1 → ⊥) → (s ≡ 2 → ⊥) → (s ≡ 3 → ⊥) → (s ≡ 4 → ⊥) → (s ≡ 5 → ⊥) → (s ≡ 6 → ⊥) → 7 ≤ s
-seven zero n0 n1 n2 n3 n4 n5 n6 = absurd (n0 refl)
-seven (suc zero) n0 n1 n2 n3 n4 n5 n6 = absurd (n1 refl)
-seven (suc (suc zero)) n0 n1 n2 n3 n4 n5 n6 = absurd (n2 refl)
-seven (suc (suc (suc zero))) n0 n1 n2 n3 n4 n5 n6 = absurd (n3 refl)
-seven (suc (suc (suc (suc zero)))) n0 n1 n2 n3 n4 n5 n6 = absurd (n4 refl)
-seven (suc (suc (suc (suc (suc zero))))) n0 n1 n2 n3 n4 n5 n6 = absurd (n5 refl)
-seven (suc (suc (suc (suc (suc (suc zero)))))) n0 n1 n2 n3 n4 n5 n6 = absurd (n6 refl)
-seven (suc (suc (suc (suc (suc (suc (suc s))))))) n0 n1 n2 n3 n4 n5 n6 = omega arith
-
 pub lead_one : (s : ℕ) → s < 7 → (s ≡ 1 → ⊥) → (s ≡ 2 → ⊥) → (s ≡ 3 → ⊥) → (s ≡ 5 → ⊥) → length (lead s) ≡ 1
 unfolding lead
 lead_one zero h a b c d = refl
@@ -93,9 +90,6 @@ lead_one (suc (suc (suc (suc zero)))) h a b c d = refl
 lead_one (suc (suc (suc (suc (suc zero))))) h a b c d = absurd (d refl)
 lead_one (suc (suc (suc (suc (suc (suc zero)))))) h a b c d = refl
 lead_one (suc (suc (suc (suc (suc (suc (suc s))))))) h a b c d = absurd (omega arith)
-
-pub six : (s : ℕ) → 4 ≤ s → (s ≡ 4 → ⊥) → (s ≡ 5 → ⊥) → 6 ≤ s
-six s h a b = omega arith
 
 unfoldable pub symbol : Expression → ℕ
 symbol leaf = 6

@@ -21,26 +21,32 @@ pub struct Nested {
     pub depth: usize,
 }
 
+// The symbols, which are the numbers of the definitions `postfix` and `lead` of the crate `grammar`; a variable is any greater one.
+const APPLICATION: u16 = 0;
+
+const AND: u16 = 1;
+
+const OR: u16 = 2;
+
+const IMPLIES: u16 = 3;
+
+const ABSTRACTION: u16 = 4;
+
+const NOT: u16 = 5;
+
+const LEAF: u16 = 6;
+
 // How many bytes a symbol puts before its operands.
 fn lead_size(s: u16) -> usize
     ensures { (result ≡ length (lead s)) × (result ≤ 44) }
 {
-    if s == 1 {
-        return 23;
+    match s {
+        AND | OR => 23,
+        IMPLIES => 13,
+        NOT => 44,
+        APPLICATION | ABSTRACTION | LEAF => 1,
+        _ => 2,
     }
-    if s == 2 {
-        return 23;
-    }
-    if s == 3 {
-        return 13;
-    }
-    if s == 5 {
-        return 44;
-    }
-    if s < 7 {
-        return 1;
-    }
-    2
 }
 
 // Measures the first `n` symbols.
@@ -50,15 +56,11 @@ pub fn measure(post: &[u16], n: usize) -> Sizes
 {
     let mut bytes = 0;
     let mut count = 0;
-    let mut i = 0;
-    while i < n {
-        let s = post[i];
-        i += 1;
+    for &s in &post[..n] {
         bytes += lead_size(s);
-        if s != 4 {
-            continue;
+        if s == ABSTRACTION {
+            count += 1;
         }
-        count += 1;
     }
     Sizes {
         bytes,
@@ -71,31 +73,26 @@ pub fn nesting(post: &[u16], p: usize) -> Nested
     requires { NestsAsks post.now p }
     ensures { (e : Expression) (xs : List ℕ) → take p post.now ≡ xs ++ postfix e → Nests e xs result.from result.depth }
 {
-    let s = post[p - 1];
-    if s < 4 {
-        let a = nesting(post, p - 1);
-        let mid = a.from;
-        let f = nesting(post, mid);
-        if a.depth < f.depth {
-            return f;
+    match post[p - 1] {
+        APPLICATION | AND | OR | IMPLIES => {
+            let a = nesting(post, p - 1);
+            let f = nesting(post, a.from);
+            Nested {
+                from: f.from,
+                depth: a.depth.max(f.depth),
+            }
         }
-        return Nested {
-            from: f.from,
-            depth: a.depth,
-        };
-    }
-    if s == 4 {
-        let b = nesting(post, p - 1);
-        return Nested {
-            from: b.from,
-            depth: b.depth + 1,
-        };
-    }
-    if s == 5 {
-        return nesting(post, p - 1);
-    }
-    Nested {
-        from: p - 1,
-        depth: 0,
+        ABSTRACTION => {
+            let b = nesting(post, p - 1);
+            Nested {
+                from: b.from,
+                depth: b.depth + 1,
+            }
+        }
+        NOT => nesting(post, p - 1),
+        _ => Nested {
+            from: p - 1,
+            depth: 0,
+        },
     }
 }
