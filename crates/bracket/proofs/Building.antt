@@ -4,14 +4,14 @@ use mathlib.Core.Path.{◌≡◌, refl, ap, ◌∙◌}
 use mathlib.Core.List.{List, [], ◌∷◌, ◌++◌}
 use native.Mathlib.Omega.{arith}
 use lib.ListN.{length, get_or, set, take, drop, length-append, length-set}
-use lib.Seq.{sets, length-sets, take-set-le}
+use lib.Seq.{paste, sets, length-sets, take-set-le}
 use Rattle.calculus.specs.Term.{Term, leaf, var}
 use Rattle.calculus.specs.Bytes.{bytes}
 use Rattle.calculus.specs.Abstraction.{Combination, bracket, translate}
 use Rattle.calculus.proofs.Size.{width_pos, bracket_width}
-use Rattle.bracket.specs.Words.{words, Holds, Written, run, Builds}
+use Rattle.bracket.specs.Words.{words, Holds, Written, run, BuildAt, Builds}
 use Rattle.bracket.proofs.Standing.{part, moved, joined, behind, fewer, kept}
-use Rattle.bracket.proofs.Stores.{take_sets, stored}
+use Rattle.bracket.proofs.Stores.{take_sets, stored, copied}
 use Rattle.bracket.proofs.Runs.{words_pos, words_width}
 use Rattle.bracket.proofs.Terms.{IsApp, IsAbs, is_leaf, is_app, is_abs, is_var}
 
@@ -35,6 +35,28 @@ abs_run {t = t} k =
 -- a body ends before q where its abstraction does
 pub body_apart : {b : List ℕ} {at : ℕ} {t : Term} (k : IsAbs b at t) (w q : ℕ) → w + length (run t) ≤ q → w + length (run k.body) ≤ q
 body_apart k w q l = omega (arith, (abs_run k).0)
+
+-- where an application's function part is built, its words end at e, from where the argument's have room
+pub function_end : {b : List ℕ} {at : ℕ} {s : List ℕ} {w q n e : ℕ} {s₁ : List ℕ} (p : BuildAt b at s w q) → get_or b at 0 ≡ 1
+    → ((f : Term) → Holds b (at + 1) (bytes f) → Builds (at + 1) (w + 1) f n e s s₁) → (w + 1 ≤ e) × (e ≤ q) × (q ≤ 65536)
+function_end p one F =
+    let k = is_app _ _ _ p.stands one in
+    let f = F k.function k.first in
+    (omega (arith, f.ends), omega (arith, f.ends, p.room, app_run k), omega (arith, p.space, p.short))
+
+-- where an abstraction's body is built and abstracted, the words from q to e have room in its place
+pub abstraction_end : {b : List ℕ} {at : ℕ} {s : List ℕ} {w q n₁ e₁ e : ℕ} {s₁ s₂ : List ℕ} (p : BuildAt b at s w q) → get_or b at 0 ≡ 2
+    → ((a : Term) → Holds b (at + 1) (bytes a) → Builds (at + 1) w a n₁ e₁ s s₁)
+    → ((c : Combination) → Holds s₁ w (words c) → w + length (words c) ≤ q → Written s₁ q (words (bracket c)) e s₂)
+    → (q ≤ e) × (e ≤ length s₂) × (w + (e - q) ≤ length s₂)
+abstraction_end {w = w} {q = q} {s₁ = s₁} p two B C =
+    let k = is_abs _ _ _ p.stands two in
+    let a = B k.body k.inner in
+    let r = C (translate k.body) a.stands (body_apart k w q p.room) in
+    let x : List ℕ = words (bracket (translate k.body)) in
+    let m = (abs_run k).1 in
+    let same = ap length r.stored ∙ length-sets s₁ q x ∙ a.same_length in
+    (omega (arith, r.end), omega (arith, r.end, m, p.space, same), omega (arith, r.end, m, p.room, p.space, same))
 
 -- a leaf and a variable are one word
 one_word : (at : ℕ) (s : List ℕ) (w : ℕ) (t : Term) (x n : ℕ) → run t ≡ x ∷ [] → n ≡ at + length (bytes t) → w < length s
@@ -91,7 +113,7 @@ module _ (b : List ℕ) (at : ℕ) (s : List ℕ) (w : ℕ) (t : Term) (h : Hold
   pub build_abs : (q n₁ e₁ e₂ : ℕ) (s₁ s₂ s₃ : List ℕ) → w + length (run t) ≤ q → q + length (run t) ≤ length s → get_or b at 0 ≡ 2
       → ((a : Term) → Holds b (at + 1) (bytes a) → Builds (at + 1) w a n₁ e₁ s s₁)
       → ((c : Combination) → Holds s₁ w (words c) → w + length (words c) ≤ q → Written s₁ q (words (bracket c)) e₂ s₂)
-      → s₃ ≡ sets s₂ w (take (e₂ - q) (drop q s₂))
+      → s₃ ≡ paste s₂ w (drop q s₂) (e₂ - q)
       → Builds at w t n₁ (w + (e₂ - q)) s s₃
   unfolding bytes translate
   build_abs q n₁ e₁ e₂ s₁ s₂ s₃ room space e B C M =
@@ -102,8 +124,8 @@ module _ (b : List ℕ) (at : ℕ) (s : List ℕ) (w : ℕ) (t : Term) (h : Hold
       let x : List ℕ = words (bracket c) in
       let r = C c a.stands (omega arith) in
       let there : Holds s₂ q x = rw r.stored (stored x s₁ q (omega (arith, a.same_length))) in
-      let z : s₃ ≡ sets s₂ w x = M ∙ ap (sets s₂ w) (part s₂ x q (e₂ - q) there (omega (arith, r.end))) in
       let same : length s₂ ≡ length s = ap length r.stored ∙ length-sets s₁ q x ∙ a.same_length in
+      let z : s₃ ≡ sets s₂ w x = M ∙ copied s₂ q (e₂ - q) w (omega (arith, r.end, same)) (omega (arith, r.end, same)) ∙ ap (sets s₂ w) (part s₂ x q (e₂ - q) there (omega (arith, r.end))) in
       rw k.is
       (record {
         read = omega (arith, a.read);

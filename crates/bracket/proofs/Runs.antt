@@ -7,7 +7,7 @@ use lib.ListN.{length, take, get_or, length-append}
 use lib.Seq.{sets}
 use Rattle.calculus.specs.Abstraction.{Combination, leaf, app, var, bracket, width}
 use Rattle.calculus.proofs.Size.{width_pos}
-use Rattle.bracket.specs.Words.{words, Holds, Written}
+use Rattle.bracket.specs.Words.{words, Holds, Written, BracketAt}
 use Rattle.bracket.proofs.Standing.{left, right, inside, head, tail, moved, kept}
 use Rattle.bracket.proofs.Stores.{sets_before, written_more, take_sets}
 
@@ -131,3 +131,13 @@ app_room k = ap (λ (x : Combination). length (words (bracket x))) k.is ∙ leng
 pub app_apart : {s : List ℕ} {p : ℕ} {c : Combination} (k : IsApp s p c) (q : ℕ) → p + length (words c) ≤ q
     → p + 1 + get_or s p 0 / 2 + length (words k.argument) ≤ q + 5
 app_apart k q l = omega (arith, k.half, k.long)
+
+-- where an application's argument has its abstraction from five words after q on, that ends at e
+pub argument_end : {s : List ℕ} {p q e : ℕ} {s₁ : List ℕ} (r : BracketAt s p q) → (get_or s p 0 ≡ 0 → ⊥) → (get_or s p 0 % 2 ≡ 1 → ⊥)
+    → ((v : Combination) → Holds s (p + 1 + get_or s p 0 / 2) (words v) → p + 1 + get_or s p 0 / 2 + length (words v) ≤ q + 5
+    → Written s (q + 5) (words (bracket v)) e s₁)
+    → (q + 5 ≤ e) × (e ≤ 65536)
+argument_end {q = q} r n o A =
+    let k = is_app _ _ _ r.stands n o in
+    let a = A k.argument k.second (app_apart k q r.apart) in
+    (omega (arith, a.end), omega (arith, a.end, r.room, r.short, app_room k))

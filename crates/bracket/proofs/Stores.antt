@@ -3,10 +3,10 @@ use Prim.Native.Nat.{ℕ, suc, ◌+◌, ◌<◌, ◌≤◌}
 use mathlib.Core.Path.{◌≡◌, refl, sym, ap, ap₂, ◌∙◌}
 use mathlib.Core.List.{List, [], ◌∷◌, ◌++◌, append_assoc}
 use native.Mathlib.Nat.{add-zero, add-suc, suc-add}
-use native.Mathlib.Numerals.{add-one}
 use native.Mathlib.Omega.{arith}
-use lib.ListN.{length, drop, take, set, get_or, length-append, length-drop}
-use lib.Seq.{sets, sets-eq, set-set, set_comm, take-suc, get_or-drop, take-set-le, drop-set-lt, drop_at, length-take-le}
+use lib.ListN.{length, drop, take, set, length-append, length-drop}
+use lib.Seq.{paste, sets, sets-eq, set_comm, take-set-le, drop-set-lt, drop_at, length-take-le}
+use Rattle.std.proofs.lemmas.List.Edits.{paste_all}
 use Rattle.bracket.specs.Words.{Holds, Written}
 
 -- two runs, the second written after the first, or before it
@@ -20,16 +20,6 @@ written_more {d} {xs = xs} {ys = ys} {q = q} i j =
     record {
       end = omega (arith, i.end, j.end, length-append xs ys);
       stored = j.stored ∙ ap₂ (λ (l : List ℕ) (n : ℕ). sets l n ys) i.stored i.end ∙ sets_more xs ys d q;
-    }
-
--- the second run begins with the first one's last word
-pub written_again : (xs : List ℕ) {d d₁ d₂ ys : List ℕ} {x q e r : ℕ} → Written d q (xs ++ (x ∷ [])) e d₁ → Written d₁ (q + length xs) (x ∷ ys) r d₂
-    → Written d q (xs ++ (x ∷ ys)) r d₂
-written_again xs {d} {ys = ys} {x = x} {q = q} i j =
-    record {
-      end = omega (arith, j.end, length-append xs (x ∷ ys));
-      stored = j.stored ∙ ap (λ (l : List ℕ). sets l (q + length xs) (x ∷ ys)) (i.stored ∙ sym (sets_more xs (x ∷ []) d q))
-          ∙ ap (λ (l : List ℕ). sets l (suc (q + length xs)) ys) (set-set (sets d q xs) (q + length xs) x x) ∙ sets_more xs (x ∷ ys) d q;
     }
 
 set_sets : (ys l : List ℕ) (i q x : ℕ) → i < q → set (sets l q ys) i x ≡ sets (set l i x) q ys
@@ -58,15 +48,12 @@ stored xs l q h =
     ap (drop q) (sets-eq xs l q h ∙ append_assoc (take q l) xs _) ∙ drop_at (take q l) _ q (length-take-le q l (omega arith))
     ∙ ap (λ (r : List ℕ). xs ++ r) (sym (drop_sets xs l q (q + length xs) (omega arith)))
 
--- a turn of a copy to words that end before those it reads
-pub copy_step : (s : List ℕ) (from at i : ℕ) → from + i < length s → at + i ≤ from
-    → set (sets s at (take i (drop from s))) (at + i) (get_or (sets s at (take i (drop from s))) (from + i) 0) ≡ sets s at (take (i + 1) (drop from s))
-copy_step s from at i h l =
-    let xs : List ℕ = take i (drop from s) in
-    let x : ℕ = get_or s (from + i) 0 in
-    let len : length xs ≡ i = length-take-le i (drop from s) (omega (arith, length-drop from s)) in
-    let same : get_or (sets s at xs) (from + i) 0 ≡ x =
-    sym (get_or-drop from (sets s at xs) i 0) ∙ ap (λ (m : List ℕ). get_or m i 0) (drop_sets xs s at from (omega arith)) ∙ get_or-drop from s i 0 in
-    let one : take (i + 1) (drop from s) ≡ xs ++ (x ∷ []) =
-    ap (λ (k : ℕ). take k (drop from s)) (add-one i) ∙ take-suc (drop from s) i 0 (omega (arith, length-drop from s)) ∙ ap (λ (k : ℕ). xs ++ (k ∷ [])) (get_or-drop from s i 0) in
-    ap₂ (λ (j k : ℕ). set (sets s at xs) (at + j) k) (sym len) same ∙ sets_more xs (x ∷ []) s at ∙ ap (sets s at) (sym one)
+-- words copied into a list, and a part of the list copied
+pub pasted : (xs s : List ℕ) (q n : ℕ) → n ≡ length xs → q + n ≤ length s → paste s q xs n ≡ sets s q xs
+pasted xs s q n e h = paste_all s q xs n e ∙ ap (λ (k : ℕ). take q s ++ (xs ++ drop (q + k) s)) e ∙ sym (append_assoc (take q s) xs _) ∙ sym (sets-eq xs s q (omega arith))
+
+pub copied : (s : List ℕ) (from n at : ℕ) → from + n ≤ length s → at + n ≤ length s → paste s at (drop from s) n ≡ sets s at (take n (drop from s))
+copied s from n at f h =
+    let xs : List ℕ = take n (drop from s) in
+    let len : length xs ≡ n = length-take-le n (drop from s) (omega (arith, length-drop from s)) in
+    sym (sets-eq xs s at (omega arith) ∙ ap (λ (k : ℕ). (take at s ++ xs) ++ drop (at + k) s) len)
