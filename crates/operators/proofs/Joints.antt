@@ -1,20 +1,23 @@
 -- Laws of what stands between two operands, and of symbols written. Assumes nothing.
-use Prim.Native.Nat.{ℕ, suc, ◌+◌, ◌≤◌, ◌<◌}
-use mathlib.Core.Path.{◌≡◌, refl, ap, ◌∙◌}
+use Prim.Native.Nat.{ℕ, zero, suc, ◌+◌, ◌≤◌, ◌<◌}
+use mathlib.Core.Path.{◌≡◌, refl, sym, ap, subst, ◌∙◌}
 use mathlib.Core.Bool.{Bool, true, false}
-use mathlib.Core.List.{List, ◌∷◌, ◌++◌, append_assoc, append-nil}
+use mathlib.Core.List.{List, ◌∷◌}
 use native.Mathlib.Omega.{arith}
-use lib.ListN.{length, get_or, take, drop, set, replicate, replicate-append-replicate, length-replicate}
-use lib.Seq.{take-suc-set}
-use lib.Dec.{ltb}
-use borrow.Author.Tests.{ltb-true, ltb-false}
-use Rattle.table.specs.Wrote.{Wrote}
+use lib.ListN.{length, get_or, drop, length-drop}
+use lib.Seq.{get_or-drop}
+use lib.Dec.{eqb, ltb}
+use borrow.Author.Tests.{ltb-true, ltb-false, eqb-true, eqb-false}
+use mathlib.Core.Logic.{◌⊎◌, inl, inr}
+use Rattle.std.specs.List.{prefix_len}
+use Rattle.std.proofs.lemmas.List.Sums.{prefix_len_passes, prefix_len_stops, prefix_len-le-length}
 use Rattle.grammar.specs.Tokens.{Token, is_closing, is_stop, is_bang}
 use Rattle.grammar.specs.Reader.{Unclosed, unclosed, parse, Starts}
 use Rattle.grammar.specs.Words.{token, tokens}
 use Rattle.grammar.proofs.Enough.{NotBang, parse_any, parse_bang, more_end, more_closing, more_stop, more_bang}
 use Rattle.grammar.proofs.Places.{tokens_at, tokens_end, sign_at, by_token}
 use Rattle.operators.specs.Code.{JointAt, noted_by, Bangs}
+use Rattle.std.specs.Prelude as code
 use Rattle.operators.specs.declared.Joint.TheVariants as joint
 
 not_bang : (w : ℕ) (r : List Token) → (w ≡ 33 → ⊥) → NotBang (token w ∷ r)
@@ -24,72 +27,57 @@ starts : (w : ℕ) (r : List Token) → (w ≡ 41 → ⊥) → (w ≡ 38 → ⊥
 starts w r k a b i s n = by_token (λ (t : Token). Starts (t ∷ r)) w (λ e. tt) (λ e. tt) (λ e. tt) k s n a b i tt
 
 module _ (ws : List ℕ) (at : ℕ) where
-  pub joint_none : length ws ≤ at → JointAt ws at joint.End
+  pub joint_none : length ws ≤ at → JointAt ws at (code.Some joint.End)
   joint_none h = λ d Γ p e. rw (tokens_end ws at h) (more_end d Γ p e)
 
-  pub joint_closing : at < length ws → get_or ws at 0 ≡ 41 → JointAt ws at joint.End
+  pub joint_closing : at < length ws → get_or ws at 0 ≡ 41 → JointAt ws at (code.Some joint.End)
   joint_closing h q = λ d Γ p e. rw (sign_at is_closing ws at h q) (more_closing d Γ p e _)
 
-  pub joint_stop : at < length ws → get_or ws at 0 ≡ 46 → JointAt ws at joint.Broken
+  joint_stop : at < length ws → get_or ws at 0 ≡ 46 → JointAt ws at code.None
   joint_stop h q = λ d Γ p e. rw (sign_at is_stop ws at h q) (more_stop d Γ p e _)
 
-  pub joint_bang : at < length ws → get_or ws at 0 ≡ 33 → JointAt ws at joint.Broken
+  joint_bang : at < length ws → get_or ws at 0 ≡ 33 → JointAt ws at code.None
   joint_bang h q = λ d Γ p e. rw (sign_at is_bang ws at h q) (more_bang d Γ p e _)
 
+  pub joint_broken : at < length ws → (get_or ws at 0 ≡ 33) ⊎ (get_or ws at 0 ≡ 46) → JointAt ws at code.None
+  joint_broken h (inl q) = joint_bang h q
+  joint_broken h (inr q) = joint_stop h q
+
   pub joint_operand : at < length ws → (get_or ws at 0 ≡ 41 → ⊥) → (get_or ws at 0 ≡ 38 → ⊥) → (get_or ws at 0 ≡ 124 → ⊥) → (get_or ws at 0 ≡ 62 → ⊥)
-      → (get_or ws at 0 ≡ 46 → ⊥) → (get_or ws at 0 ≡ 33 → ⊥) → JointAt ws at joint.Operand
+      → (get_or ws at 0 ≡ 46 → ⊥) → (get_or ws at 0 ≡ 33 → ⊥) → JointAt ws at (code.Some joint.Operand)
   joint_operand h a b c d e f = (rw (tokens_at ws at h) (starts (get_or ws at 0) (tokens (drop (at + 1) ws)) a b c d e f), h)
 
--- n of the words from a place on are !
-pub record Passed (ws : List ℕ) (from n : ℕ) : Type 0 where
-  pub within : from + n ≤ length ws
-  pub all : (i : ℕ) → i < n → get_or ws (from + i) 0 ≡ 33
-  pub leads : (d : ℕ) (Γ : List ℕ) (p : Unclosed) → parse d Γ p (tokens (drop from ws)) ≡ parse d Γ (noted_by n p) (tokens (drop (from + n) ws))
+-- n times ! passed
+passed : (ws : List ℕ) (from n : ℕ) → from + n ≤ length ws → ((i : ℕ) → i < n → get_or ws (from + i) 0 ≡ 33)
+    → (d : ℕ) (Γ : List ℕ) (p : Unclosed) → parse d Γ p (tokens (drop from ws)) ≡ parse d Γ (noted_by n p) (tokens (drop (from + n) ws))
+passed ws from zero h a d Γ p =
+    let e : p.nots + 0 ≡ p.nots = omega arith in
+    let f : from + 0 ≡ from = omega arith in
+    rw (e, f)
+passed ws from (suc n) h a d Γ p =
+    let k : suc (p.nots + n) ≡ p.nots + suc n = omega arith in
+    let l : from + n + 1 ≡ from + suc n = omega arith in
+    passed ws from n (omega arith) (λ i l. a i (omega arith)) d Γ p
+    ∙ ap (parse d Γ (noted_by n p)) (sign_at is_bang ws (from + n) (omega arith) (a n (omega arith))) ∙ parse_bang d Γ (noted_by n p) _
+    ∙ ap (λ (i : ℕ). parse d Γ (unclosed p.implies p.or p.and i) (tokens (drop (from + n + 1) ws))) k
+    ∙ ap (λ (i : ℕ). parse d Γ (noted_by (suc n) p) (tokens (drop i ws))) l
 
-pub passed_none : (ws : List ℕ) (from : ℕ) → from ≤ length ws → Passed ws from 0
-passed_none ws from h = record {
-  within = omega arith;
-  all = λ i l. absurd (omega arith);
-  leads = λ d Γ p.
-      let e : p.nots + 0 ≡ p.nots = omega arith in
-      let f : from + 0 ≡ from = omega arith in
-      rw (e, f);
-}
+-- what follows is no !
+stops : (ws : List ℕ) (at : ℕ) → (at < length ws → get_or ws at 0 ≡ 33 → ⊥) → (z : Bool) → ltb at (length ws) ≡ z → NotBang (tokens (drop at ws))
+stops ws at h true e = let l = ltb-true at (length ws) e in rw (tokens_at ws at l) (not_bang (get_or ws at 0) (tokens (drop (at + 1) ws)) (h l))
+stops ws at h false e = rw (tokens_end ws at (ltb-false at (length ws) e)) tt
 
-passed_all : (ws : List ℕ) (from n : ℕ) → Passed ws from n → get_or ws (from + n) 0 ≡ 33 → (i : ℕ) → i < n + 1 → (z : Bool) → ltb i n ≡ z → get_or ws (from + i) 0 ≡ 33
-passed_all ws from n q e i l true z = q.all i (ltb-true i n z)
-passed_all ws from n q e i l false z = let k : n ≡ i = omega (arith, ltb-false i n z) in rw k at e
-
-pub passed_more : (ws : List ℕ) (from n : ℕ) → Passed ws from n → from + n < length ws → get_or ws (from + n) 0 ≡ 33 → Passed ws from (n + 1)
-passed_more ws from n q h e = record {
-  within = omega arith;
-  all = λ i l. passed_all ws from n q e i l (ltb i n) refl;
-  leads = λ d Γ p.
-      let k : suc (p.nots + n) ≡ p.nots + (n + 1) = omega arith in
-      let l : from + n + 1 ≡ from + (n + 1) = omega arith in
-      q.leads d Γ p ∙ ap (parse d Γ (noted_by n p)) (sign_at is_bang ws (from + n) h e) ∙ parse_bang d Γ (noted_by n p) _
-      ∙ ap (λ (i : ℕ). parse d Γ (unclosed p.implies p.or p.and i) (tokens (drop (from + n + 1) ws))) k
-      ∙ ap (λ (i : ℕ). parse d Γ (noted_by (n + 1) p) (tokens (drop i ws))) l;
-}
-
-stopped : (ws : List ℕ) (from n : ℕ) → Passed ws from n → (from + n < length ws → get_or ws (from + n) 0 ≡ 33 → ⊥) → NotBang (tokens (drop (from + n) ws)) → Bangs ws from n
-stopped ws from n q k h = record { within = q.within; all = q.all; ends = k; leads = λ d Γ p. q.leads d Γ p ∙ parse_any d Γ (noted_by n p) _ h }
-
-pub stopped_end : (ws : List ℕ) (from n : ℕ) → Passed ws from n → length ws ≤ from + n → Bangs ws from n
-stopped_end ws from n q h = stopped ws from n q (λ l k. omega arith) (rw (tokens_end ws (from + n) h) tt)
-
-pub stopped_other : (ws : List ℕ) (from n : ℕ) → Passed ws from n → from + n < length ws → (get_or ws (from + n) 0 ≡ 33 → ⊥) → Bangs ws from n
-stopped_other ws from n q h e = stopped ws from n q (λ l. e) (rw (tokens_at ws (from + n) h) (not_bang (get_or ws (from + n) 0) (tokens (drop (from + n + 1) ws)) e))
-
--- one symbol more
-pub put_more : (l m : List ℕ) (w i s : ℕ) → take (w + i) m ≡ take w l ++ replicate i s → w + i < length m
-    → take (w + (i + 1)) (set m (w + i) s) ≡ take w l ++ replicate (i + 1) s
-put_more l m w i s e h =
-    let k : w + (i + 1) ≡ suc (w + i) = omega arith in
-    rw (k, take-suc-set m (w + i) s h, e, append_assoc, replicate-append-replicate i 1 s)
-
-pub put_none : (l : List ℕ) (w s : ℕ) → take (w + 0) l ≡ take w l ++ replicate 0 s
-put_none l w s = let e : w + 0 ≡ w = omega arith in rw (e, append-nil)
-
-pub put_done : (l m : List ℕ) (w n i s : ℕ) → i ≡ n → w + n ≤ length l → take (w + i) m ≡ take w l ++ replicate i s → Wrote l w (replicate n s) (w + n) m
-put_done l m w n i s e h f = record { ends = omega (arith, length-replicate n s); inside = h; front = rw e at f }
+pub bangs_are : (ws : List ℕ) (from n : ℕ) → from ≤ length ws → n ≡ prefix_len (λ (t : ℕ). eqb t 33) (drop from ws) → Bangs ws from n
+bangs_are ws from n h e =
+    let l : from + n ≤ length ws = omega (arith, prefix_len-le-length (λ (t : ℕ). eqb t 33) (drop from ws), length-drop from ws) in
+    let a : (i : ℕ) → i < n → get_or ws (from + i) 0 ≡ 33 = λ i k.
+    eqb-true _ 33 (rw get_or-drop at (prefix_len_passes (λ (t : ℕ). eqb t 33) (drop from ws) i 0 (omega arith))) in
+    let s : from + n < length ws → get_or ws (from + n) 0 ≡ 33 → ⊥ = λ k.
+    let m : n < length (drop from ws) = omega (arith, length-drop from ws) in
+    eqb-false _ 33 (rw get_or-drop at (subst (λ (j : ℕ). j < length (drop from ws) → eqb (get_or (drop from ws) j 0) 33 ≡ false) (sym e) (prefix_len_stops (λ (t : ℕ). eqb t 33) (drop from ws) 0) m)) in
+    record {
+      within = l;
+      all = a;
+      ends = s;
+      leads = λ d Γ p. passed ws from n l a d Γ p ∙ parse_any d Γ (noted_by n p) _ (stops ws (from + n) s (ltb (from + n) (length ws)) refl);
+    }

@@ -12,9 +12,15 @@ use Rattle.grammar.specs.Words.{tokens}
 use Rattle.grammar.specs.Postfix.{postfix}
 use Rattle.grammar.proofs.Enough.{more_operand, more_ampersand, more_bar, more_arrow}
 use Rattle.operators.specs.Code.{applied, count, symbols, symbols_of, flat, Counts, noted_by, Begun, JointAt, AfterAsks, Stepped}
+use Rattle.std.specs.Prelude as code
+use Rattle.operators.specs.declared.Joint.{Joint}
 use Rattle.operators.specs.declared.Joint.TheVariants as joint
 use Rattle.operators.specs.declared.Waiting.{Waiting}
 use Rattle.operators.specs.declared.Step.TheVariants as step
+
+-- a joint that was found
+pub joint_is : (ws : List ℕ) (at : ℕ) {r : code.Option Joint} {j k : Joint} → JointAt ws at r → r ≡ code.Some j → j ≡ k → JointAt ws at (code.Some k)
+joint_is ws at h e f = subst (JointAt ws at) (e ∙ ap (λ (j : Joint). code.Some j) f) h
 
 applied_symbols : (f : Option Expression) (a : Expression) → symbols f ++ (postfix a ++ replicate (count f) 0) ≡ postfix (applied f a)
 unfolding symbols count applied postfix
@@ -104,12 +110,12 @@ module _ (d : ℕ) (Γ : List ℕ) (p : Unclosed) (f : Option Expression) (a : E
 
   -- what holds where an operand was begun
   begun_step : (l : List ℕ) (v : Waiting) {i a b c : ℕ} (k : Begun ws (at + 1) i a b c v)
-      → Stepped d Γ after_read xs ws l at (step.More (record { at = at + 1 + k.nots; end = i; implies = a; ors = b; ands = c; nots = k.nots; apps = 0 }))
-      → Stepped d Γ after_read xs ws l at (step.More v)
-  begun_step l v k = subst (λ (z : Waiting). Stepped d Γ after_read xs ws l at (step.More z)) (sym k.is)
+      → Stepped d Γ after_read xs ws l at (code.Some (step.More (record { at = at + 1 + k.nots; end = i; implies = a; ors = b; ands = c; nots = k.nots; apps = 0 })))
+      → Stepped d Γ after_read xs ws l at (code.Some (step.More v))
+  begun_step l v k = subst (λ (z : Waiting). Stepped d Γ after_read xs ws l at (code.Some (step.More z))) (sym k.is)
 
-  pub step_operand : JointAt ws at joint.Operand
-      → Stepped d Γ after_read xs ws m at (step.More (record { at = at; end = e; implies = w.implies; ors = w.ors; ands = w.ands; nots = w.nots; apps = 1 }))
+  pub step_operand : JointAt ws at (code.Some joint.Operand)
+      → Stepped d Γ after_read xs ws m at (code.Some (step.More (record { at = at; end = e; implies = w.implies; ors = w.ors; ands = w.ands; nots = w.nots; apps = 1 })))
   unfolding applied count
   step_operand j = (
     record {
@@ -124,9 +130,9 @@ module _ (d : ℕ) (Γ : List ℕ) (p : Unclosed) (f : Option Expression) (a : E
     omega arith,
   )
 
-  pub step_and : JointAt ws at joint.And → (l : List ℕ) (i : ℕ) → Wrote m e (replicate w.nots 5 ++ (replicate w.ands 1 ++ replicate 0 2)) i l
+  pub step_and : JointAt ws at (code.Some joint.And) → (l : List ℕ) (i : ℕ) → Wrote m e (replicate w.nots 5 ++ (replicate w.ands 1 ++ replicate 0 2)) i l
       → (v : Waiting) → Begun ws (at + 1) i w.implies w.ors 1 v
-      → Stepped d Γ after_read xs ws l at (step.More v)
+      → Stepped d Γ after_read xs ws l at (code.Some (step.More v))
   unfolding applied count
   step_and j l i s v k = begun_step l v k (
     record {
@@ -141,9 +147,9 @@ module _ (d : ℕ) (Γ : List ℕ) (p : Unclosed) (f : Option Expression) (a : E
     omega arith,
   )
 
-  pub step_or : JointAt ws at joint.Or → (l : List ℕ) (i : ℕ) → Wrote m e (replicate w.nots 5 ++ (replicate w.ands 1 ++ replicate w.ors 2)) i l
+  pub step_or : JointAt ws at (code.Some joint.Or) → (l : List ℕ) (i : ℕ) → Wrote m e (replicate w.nots 5 ++ (replicate w.ands 1 ++ replicate w.ors 2)) i l
       → (v : Waiting) → Begun ws (at + 1) i w.implies (1) 0 v
-      → Stepped d Γ after_read xs ws l at (step.More v)
+      → Stepped d Γ after_read xs ws l at (code.Some (step.More v))
   unfolding applied count
   step_or j l i s v k = begun_step l v k (
     record {
@@ -160,9 +166,9 @@ module _ (d : ℕ) (Γ : List ℕ) (p : Unclosed) (f : Option Expression) (a : E
     omega arith,
   )
 
-  pub step_arrow : JointAt ws at joint.Arrow → (l : List ℕ) (i : ℕ) → Wrote m e (replicate w.nots 5 ++ (replicate w.ands 1 ++ replicate w.ors 2)) i l
+  pub step_arrow : JointAt ws at (code.Some joint.Arrow) → (l : List ℕ) (i : ℕ) → Wrote m e (replicate w.nots 5 ++ (replicate w.ands 1 ++ replicate w.ors 2)) i l
       → (v : Waiting) → Begun ws (at + 1) i (w.implies + 1) (0) 0 v
-      → Stepped d Γ after_read xs ws l at (step.More v)
+      → Stepped d Γ after_read xs ws l at (code.Some (step.More v))
   unfolding applied count
   step_arrow j l i s v k = begun_step l v k (
     record {
@@ -179,8 +185,8 @@ module _ (d : ℕ) (Γ : List ℕ) (p : Unclosed) (f : Option Expression) (a : E
     omega arith,
   )
 
-  pub step_end : JointAt ws at joint.End → (l : List ℕ) (i : ℕ) → Wrote m e (replicate w.nots 5 ++ (replicate w.ands 1 ++ replicate w.ors 2)) i l
-      → (k : List ℕ) (b : ℕ) → Wrote l i (replicate w.implies 3) b k → length k ≡ length l → Stepped d Γ after_read xs ws k at (step.Done b)
+  pub step_end : JointAt ws at (code.Some joint.End) → (l : List ℕ) (i : ℕ) → Wrote m e (replicate w.nots 5 ++ (replicate w.ands 1 ++ replicate w.ors 2)) i l
+      → (k : List ℕ) (b : ℕ) → Wrote l i (replicate w.implies 3) b k → length k ≡ length l → Stepped d Γ after_read xs ws k at (code.Some (step.Done b))
   step_end j l i s k b u z = record {
     e = closed p (applied f a);
     leads = j d Γ p (applied f a);

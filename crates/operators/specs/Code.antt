@@ -1,5 +1,6 @@
 -- What the functions ask and give, in terms of the grammar's reader. Assumes nothing: these are definitions.
 use Rattle.std.specs.Prelude.{ℕ, ◌+◌, ◌*◌, ◌≤◌, ◌<◌, ◌≡◌, List, [], ◌∷◌, ◌++◌, length, get_or, take, drop}
+use Rattle.std.specs.Prelude as code
 use Rattle.std.proofs.Math.Option.{Option, none, some}
 use Rattle.grammar.specs.Expression.{Expression, app}
 use Rattle.grammar.specs.Tokens.{ampersand, bar, arrow}
@@ -12,14 +13,14 @@ use Rattle.operators.specs.declared.Waiting.{Waiting}
 use Rattle.operators.specs.declared.Step.{Step}
 use Rattle.operators.specs.declared.Step.TheVariants as step
 
--- what stands after an application
-abbrev pub JointAt : List ℕ → ℕ → Joint → Type 0
-JointAt ws at joint.Operand = Starts (tokens (drop at ws)) × (at < length ws)
-JointAt ws at joint.End = (d : ℕ) (Γ : List ℕ) (p : Unclosed) (e : Expression) → more d Γ p e (tokens (drop at ws)) ≡ read (closed p e) (tokens (drop at ws))
-JointAt ws at joint.And = (tokens (drop at ws) ≡ ampersand ∷ tokens (drop (at + 1) ws)) × (at < length ws)
-JointAt ws at joint.Or = (tokens (drop at ws) ≡ bar ∷ tokens (drop (at + 1) ws)) × (at < length ws)
-JointAt ws at joint.Arrow = (tokens (drop at ws) ≡ arrow ∷ tokens (drop (at + 1) ws)) × (at < length ws)
-JointAt ws at joint.Broken = (d : ℕ) (Γ : List ℕ) (p : Unclosed) (e : Expression) → more d Γ p e (tokens (drop at ws)) ≡ nothing
+-- what stands after an application; none where no expression goes on with it
+abbrev pub JointAt : List ℕ → ℕ → code.Option Joint → Type 0
+JointAt ws at (code.Some joint.Operand) = Starts (tokens (drop at ws)) × (at < length ws)
+JointAt ws at (code.Some joint.End) = (d : ℕ) (Γ : List ℕ) (p : Unclosed) (e : Expression) → more d Γ p e (tokens (drop at ws)) ≡ read (closed p e) (tokens (drop at ws))
+JointAt ws at (code.Some joint.And) = (tokens (drop at ws) ≡ ampersand ∷ tokens (drop (at + 1) ws)) × (at < length ws)
+JointAt ws at (code.Some joint.Or) = (tokens (drop at ws) ≡ bar ∷ tokens (drop (at + 1) ws)) × (at < length ws)
+JointAt ws at (code.Some joint.Arrow) = (tokens (drop at ws) ≡ arrow ∷ tokens (drop (at + 1) ws)) × (at < length ws)
+JointAt ws at code.None = (d : ℕ) (Γ : List ℕ) (p : Unclosed) (e : Expression) → more d Γ p e (tokens (drop at ws)) ≡ nothing
 
 -- so many ! more
 abbrev pub noted_by : ℕ → Unclosed → Unclosed
@@ -101,14 +102,14 @@ pub record Finished (x : Read) (xs ws post : List ℕ) (at end : ℕ) : Type 0 w
   pub front : take end post ≡ xs ++ postfix e
   pub inside : end ≤ length post
 
--- what each step says of the reader
-abbrev pub Stepped : ℕ → List ℕ → Read → List ℕ → List ℕ → List ℕ → ℕ → Step → Type 0
-Stepped d Γ x xs ws post at (step.More w) = Goes d Γ x xs ws post w × (at ≤ w.at)
-Stepped d Γ x xs ws post at (step.Done b) = Finished x xs ws post at b
-Stepped d Γ x xs ws post at step.Broken = x ≡ nothing
+-- what each step says of the reader; none where it reads nothing
+abbrev pub Stepped : ℕ → List ℕ → Read → List ℕ → List ℕ → List ℕ → ℕ → code.Option Step → Type 0
+Stepped d Γ x xs ws post at (code.Some (step.More w)) = Goes d Γ x xs ws post w × (at ≤ w.at)
+Stepped d Γ x xs ws post at (code.Some (step.Done b)) = Finished x xs ws post at b
+Stepped d Γ x xs ws post at code.None = x ≡ nothing
 
 -- for whatever operand stands there, the step from what the reader is at after it
-unfoldable pub Afters : ℕ → List ℕ → Unclosed → Option Expression → Expression → List ℕ → List ℕ → ℕ → List ℕ → ℕ → Waiting → Step → List ℕ → Type 0
+unfoldable pub Afters : ℕ → List ℕ → Unclosed → Option Expression → Expression → List ℕ → List ℕ → ℕ → List ℕ → ℕ → Waiting → code.Option Step → List ℕ → Type 0
 Afters d Γ p f a xs ws at post from w r m =
     Counts w p f → take from post ≡ xs ++ (flat p f ++ postfix a)
     → Stepped d Γ (more d Γ p (applied f a) (tokens (drop at ws))) xs ws m at r

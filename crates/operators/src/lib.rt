@@ -9,6 +9,42 @@ ghost use Rattle.grammar.specs.Reader.{Unclosed};
 ghost use Rattle.table.specs.Wrote.{Wrote};
 ghost use Rattle.operators.specs.Code.{JointAt, Bangs, Begun, AfterAsks, Afters};
 
+// The postfix symbols, as `postfix` of the crate `grammar` has them. A variable's is its number more than the first.
+pub const APPLY: u16 = 0;
+
+pub const AND: u16 = 1;
+
+pub const OR: u16 = 2;
+
+pub const IMPLIES: u16 = 3;
+
+pub const ABSTRACTION: u16 = 4;
+
+pub const NOT: u16 = 5;
+
+pub const LEAF: u16 = 6;
+
+pub const FIRST_VARIABLE: u16 = 7;
+
+// The words of signs: their bytes.
+pub const CARET: u64 = b'^' as u64;
+
+pub const OPENING: u64 = b'(' as u64;
+
+pub const BACKSLASH: u64 = b'\\' as u64;
+
+pub const CLOSING: u64 = b')' as u64;
+
+pub const STOP: u64 = b'.' as u64;
+
+pub const BANG: u64 = b'!' as u64;
+
+pub const AMPERSAND: u64 = b'&' as u64;
+
+pub const BAR: u64 = b'|' as u64;
+
+pub const ARROW: u64 = b'>' as u64;
+
 // What stands after an application.
 #[derive(Clone, Copy)]
 pub enum Joint {
@@ -17,7 +53,6 @@ pub enum Joint {
     And,
     Or,
     Arrow,
-    Broken,
 }
 
 // The place of an operand and of its symbols, and how many operators wait for it.
@@ -32,12 +67,11 @@ pub struct Waiting {
     pub apps: usize,
 }
 
-// What is next after an operand: another one, the end of the expression and of its symbols, or what no expression goes on with.
+// What is next after an operand: another one, or the end of the expression and of its symbols.
 #[derive(Clone, Copy)]
 pub enum Step {
     More(Waiting),
     Done(usize),
-    Broken,
 }
 
 // So many symbols from `w` on; the place after them.
@@ -45,11 +79,7 @@ pub fn put(post: &mut [u16], w: usize, count: usize, symbol: u16) -> usize
     requires { w + count ≤ length post.old }
     ensures { Wrote post.old w (replicate count symbol) result post.new }
 {
-    let mut i = 0;
-    while i < count {
-        post[w + i] = symbol;
-        i += 1;
-    }
+    post[w..w + count].fill(symbol);
     w + count
 }
 
@@ -58,39 +88,27 @@ fn close(post: &mut [u16], from: usize, nots: usize, ands: usize, ors: usize) ->
     requires { from + nots + ands + ors ≤ length post.old }
     ensures { Wrote post.old from (replicate nots 5 ++ (replicate ands 1 ++ replicate ors 2)) result post.new }
 {
-    let a = put(post, from, nots, 5);
-    let b = put(post, a, ands, 1);
-    put(post, b, ors, 2)
+    let a = put(post, from, nots, NOT);
+    let b = put(post, a, ands, AND);
+    put(post, b, ors, OR)
 }
 
-// What stands after an application.
-fn joint_at(words: &[u64], at: usize) -> Joint
+// What stands after an application, or none where no expression goes on with it.
+fn joint_at(words: &[u64], at: usize) -> Option<Joint>
     requires { at ≤ length words.now }
     ensures { JointAt words.now at result }
 {
     if words.len() <= at {
-        return Joint::End;
+        return Some(Joint::End);
     }
-    let t = words[at];
-    if t == 41 {
-        return Joint::End;
+    match words[at] {
+        CLOSING => Some(Joint::End),
+        AMPERSAND => Some(Joint::And),
+        BAR => Some(Joint::Or),
+        ARROW => Some(Joint::Arrow),
+        STOP | BANG => None,
+        _ => Some(Joint::Operand),
     }
-    if t == 38 {
-        return Joint::And;
-    }
-    if t == 124 {
-        return Joint::Or;
-    }
-    if t == 62 {
-        return Joint::Arrow;
-    }
-    if t == 46 {
-        return Joint::Broken;
-    }
-    if t == 33 {
-        return Joint::Broken;
-    }
-    Joint::Operand
 }
 
 // How many ! stand from a place on.
@@ -98,14 +116,7 @@ fn bangs(words: &[u64], from: usize) -> usize
     requires { from ≤ length words.now }
     ensures { Bangs words.now from result }
 {
-    let mut n = 0;
-    while from + n < words.len() {
-        if words[from + n] != 33 {
-            return n;
-        }
-        n += 1;
-    }
-    n
+    words[from..].iter().take_while(|&&t| t == BANG).count()
 }
 
 // The operand that comes after the ! from `at` on, with no application before it.
@@ -133,21 +144,24 @@ pub fn begin(
 }
 
 // After an operand whose symbols end at `from`: the operators that are complete are written.
-pub fn after(words: &[u64], at: usize, post: &mut [u16], from: usize, waiting: Waiting) -> Step
+pub fn after(
+    words: &[u64],
+    at: usize,
+    post: &mut [u16],
+    from: usize,
+    waiting: Waiting,
+) -> Option<Step>
     requires { AfterAsks words.now at post.old from waiting }
     ensures { (d : ℕ) (Γ : List ℕ) (p : Unclosed) (f : Option Expression) (a : Expression) (xs : List ℕ)
         → Afters d Γ p f a xs words.now at post.old from waiting result post.new }
 {
-    let applied = put(post, from, waiting.apps, 0);
-    match joint_at(words, at) {
+    let applied = put(post, from, waiting.apps, APPLY);
+    Some(match joint_at(words, at)? {
         Joint::Operand => Step::More(Waiting {
             at,
             end: applied,
-            implies: waiting.implies,
-            ors: waiting.ors,
-            ands: waiting.ands,
-            nots: waiting.nots,
             apps: 1,
+            ..waiting
         }),
         Joint::And => {
             let e = close(post, applied, waiting.nots, waiting.ands, 0);
@@ -163,8 +177,7 @@ pub fn after(words: &[u64], at: usize, post: &mut [u16], from: usize, waiting: W
         }
         Joint::End => {
             let e = close(post, applied, waiting.nots, waiting.ands, waiting.ors);
-            Step::Done(put(post, e, waiting.implies, 3))
+            Step::Done(put(post, e, waiting.implies, IMPLIES))
         }
-        Joint::Broken => Step::Broken,
-    }
+    })
 }
