@@ -8,13 +8,12 @@ use mathlib.Core.Option.{Option, none, some}
 use native.Mathlib.Omega.{arith}
 use lib.Dec.{leb}
 use borrow.Author.Tests.{leb-true, leb-false, le-leb}
+use Rattle.std.specs.Prelude.{Err}
 use Rattle.table.specs.declared.Refusal.TheVariants.{Week}
-use Rattle.table.specs.declared.Given.{Given}
-use Rattle.table.specs.declared.Given.TheVariants.{Refused}
 use Rattle.table.specs.Refusal.{given_by}
 use Rattle.table.proofs.Words.{and_left, and_right, told_apart, zero_one}
 use Rattle.week.specs.declared.Window.{Window}
-use Rattle.week.specs.Weeks.{is_week, passes, checked}
+use Rattle.week.specs.Weeks.{Given, is_week, passes, checked}
 use Rattle.week.specs.Claims.{ValidInput, BrokenInput, the_week, the_day, the_minute, Answers, passed, refused}
 use Rattle.week.proofs.Days.{week_exactly}
 
@@ -61,25 +60,25 @@ module _ (week : List (List Window)) (day minute : ℕ) where
   unfolding checked
   answers_exactly o Otherwise exactly a = (λ e. subst (Answers week day minute Otherwise) e (go (passes week day minute) refl), back)
     where
-      go : (z : Bool) → passes week day minute ≡ z → Answers week day minute Otherwise (cond z (given_by o) (Refused Week))
+      go : (z : Bool) → passes week day minute ≡ z → Answers week day minute Otherwise (cond z (given_by o) (Err Week))
       go true p = let k = valid p in passed k ((exactly k (given_by o)).0 refl)
       go false p = refused (broken p)
 
-      back : {b : Given} → Answers week day minute Otherwise b → cond (passes week day minute) (given_by o) (Refused Week) ≡ b
+      back : {b : Given} → Answers week day minute Otherwise b → cond (passes week day minute) (given_by o) (Err Week) ≡ b
       back (passed k q) = rw (passing k) ((exactly k _).1 q)
       back (refused q) = rw (not_passed q)
 
   -- 13 exactly on a broken week, day or minute
-  pub refused_exactly : (o : Option ℕ) → (checked week day minute o ≡ Refused Week) ↔ BrokenInput week day minute
+  pub refused_exactly : (o : Option ℕ) → (checked week day minute o ≡ Err Week) ↔ BrokenInput week day minute
   unfolding checked given_by
   refused_exactly o = (go (passes week day minute) refl o, λ b. rw (not_passed b))
     where
-      go : (z : Bool) → passes week day minute ≡ z → (x : Option ℕ) → cond z (given_by x) (Refused Week) ≡ Refused Week → BrokenInput week day minute
+      go : (z : Bool) → passes week day minute ≡ z → (x : Option ℕ) → cond z (given_by x) (Err Week) ≡ Err Week → BrokenInput week day minute
       go false p x e = broken p
       go true p none e = zero_one (cc)
       go true p (some n) e = zero_one (cc)
 
   -- an answer that is no refusal is given on valid input
-  pub answered : {Otherwise : Given → Type 0} {a : Given} → (a ≡ Refused Week → ⊥) → Answers week day minute Otherwise a → ValidInput week day minute × Otherwise a
+  pub answered : {Otherwise : Given → Type 0} {a : Given} → (a ≡ Err Week → ⊥) → Answers week day minute Otherwise a → ValidInput week day minute × Otherwise a
   answered n (passed k x) = (k, x)
   answered n (refused b) = absurd (n refl)

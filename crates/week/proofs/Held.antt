@@ -10,13 +10,12 @@ use native.Mathlib.Omega.{arith}
 use lib.Dec.{leb}
 use lib.ListN.{get_or, replicate}
 use borrow.Author.Tests.{ltb-true, leb-true, lt-ltb, le-leb}
+use Rattle.std.specs.Prelude.{Some, None, Ok, Err}
 use Rattle.table.specs.declared.Refusal.TheVariants.{Week}
-use Rattle.table.specs.declared.Given.{Given}
-use Rattle.table.specs.declared.Given.TheVariants.{Number, Nothing, Refused}
 use Rattle.table.specs.Refusal.{given_by}
 use Rattle.table.proofs.Words.{and_left, and_right, told_apart, zero_one}
 use Rattle.week.specs.declared.Window.{Window}
-use Rattle.week.specs.Weeks.{holds, packet_at, window_at}
+use Rattle.week.specs.Weeks.{Given, holds, packet_at, window_at}
 use Rattle.week.specs.Claims.{IsWindow, unused, Ascend, no_more, one_more, IsDay, IsWeek, WindowOf, ValidInput, BrokenInput, Answers, passed, Holds, At, held, not_held}
 use Rattle.week.proofs.Days.{unused_no_window, day_of_lem, below_seven}
 use Rattle.week.proofs.Checks.{answers_exactly, refused_exactly, answered}
@@ -130,7 +129,7 @@ module _ (week : List (List Window)) (day minute : ℕ) (k : ValidInput week day
   unfolding given_by
   at (some p) e =
       let x = packet_some minute (get_or week day []) p e in
-      subst (λ (n : ℕ). At week day minute (Number n)) x.packet_is (held (found x) x.it_holds)
+      subst (λ (n : ℕ). At week day minute (Ok (Some n))) x.packet_is (held (found x) x.it_holds)
   at none e = not_held (λ w o h. packet_none minute (get_or week day []) e w o.place h)
 
   gives : {a : Given} → At week day minute a → (o : Option ℕ) → packet_at minute (get_or week day []) ≡ o → given_by o ≡ a
@@ -138,7 +137,7 @@ module _ (week : List (List Window)) (day minute : ℕ) (k : ValidInput week day
   gives (held {w} o h) none e = absurd (packet_none minute (get_or week day []) e w o.place h)
   gives (held {w} o h) (some p) e =
       let x = packet_some minute (get_or week day []) p e in
-      ap Number (sym x.packet_is ∙ ap (λ (z : Window). z.packet) (never_two k.week_is (found x) o x.it_holds h))
+      ap (λ (n : ℕ). Ok (Some n)) (sym x.packet_is ∙ ap (λ (z : Window). z.packet) (never_two k.week_is (found x) o x.it_holds h))
   gives (not_held n) none e = refl
   gives (not_held n) (some p) e = let x = packet_some minute (get_or week day []) p e in absurd (n x.window (found x) x.it_holds)
 
@@ -149,18 +148,18 @@ window_exactly week day minute =
     answers_exactly week day minute (packet_at minute (get_or week day [])) (At week day minute) (λ k a. (λ e. subst (At week day minute) e (at week day minute k (packet_at minute (get_or week day [])) refl), λ q. gives week day minute k q (packet_at minute (get_or week day [])) refl))
 
 -- 13 exactly on a broken week, day or minute
-pub window_refused : (week : List (List Window)) (day minute : ℕ) → (window_at week day minute ≡ Refused Week) ↔ BrokenInput week day minute
+pub window_refused : (week : List (List Window)) (day minute : ℕ) → (window_at week day minute ≡ Err Week) ↔ BrokenInput week day minute
 unfolding window_at
 window_refused week day minute = refused_exactly week day minute (packet_at minute (get_or week day []))
 
 -- "none exactly when no window holds that minute" ([6])
-pub window_none : (week : List (List Window)) (day minute : ℕ) → (window_at week day minute ≡ Nothing)
+pub window_none : (week : List (List Window)) (day minute : ℕ) → (window_at week day minute ≡ Ok None)
     ↔ (ValidInput week day minute × ((w : Window) → WindowOf week day w → Holds minute w → ⊥))
-window_none week day minute = (λ e. go (answered week day minute (λ q. zero_one (cc)) ((window_exactly week day minute Nothing).0 e)), λ x. (window_exactly week day minute Nothing).1 (passed x.0 (not_held x.1)))
+window_none week day minute = (λ e. go (answered week day minute (λ q. zero_one (cc)) ((window_exactly week day minute (Ok None)).0 e)), λ x. (window_exactly week day minute (Ok None)).1 (passed x.0 (not_held x.1)))
   where
-    nothing : {a : Given} → At week day minute a → a ≡ Nothing → (w : Window) → WindowOf week day w → Holds minute w → ⊥
+    nothing : {a : Given} → At week day minute a → a ≡ Ok None → (w : Window) → WindowOf week day w → Holds minute w → ⊥
     nothing (held o h) e = zero_one (cc)
     nothing (not_held n) e = n
 
-    go : ValidInput week day minute × At week day minute Nothing → ValidInput week day minute × ((w : Window) → WindowOf week day w → Holds minute w → ⊥)
+    go : ValidInput week day minute × At week day minute (Ok None) → ValidInput week day minute × ((w : Window) → WindowOf week day w → Holds minute w → ⊥)
     go x = (x.0, nothing x.1 refl)

@@ -4,10 +4,10 @@ use mathlib.Core.Path.{◌≡◌, refl, sym, ap, ◌∙◌}
 use mathlib.Core.List.{List, [], ◌∷◌, map}
 use lib.ListN.{length, get_or}
 use borrow.Author.Tests.{eq-eqb, ne_eqb}
+use Rattle.std.specs.Prelude.{Err}
 use Rattle.table.specs.declared.Refusal.TheVariants.{Week}
-use Rattle.table.specs.declared.Given.{Given}
-use Rattle.table.specs.declared.Given.TheVariants.{Refused}
 use Rattle.week.specs.declared.Window.{Window}
+use Rattle.week.specs.Weeks.{Given}
 use Rattle.week.specs.Lent.{place_of, day_of, week_of, day_numbers, week_numbers, lent}
 
 -- the numbers below n, and a list by its places
@@ -33,7 +33,7 @@ pub lent_week : (answer : List (List Window) → ℕ → ℕ → Given) (ns : Li
 unfolding lent
 lent_week answer ns day minute h = rw (eq-eqb _ _ h)
 
-pub other_count : (answer : List (List Window) → ℕ → ℕ → Given) (ns : List ℕ) (day minute : ℕ) → (length ns ≡ 84 → ⊥) → lent answer ns day minute ≡ Refused Week
+pub other_count : (answer : List (List Window) → ℕ → ℕ → Given) (ns : List ℕ) (day minute : ℕ) → (length ns ≡ 84 → ⊥) → lent answer ns day minute ≡ Err Week
 unfolding lent
 other_count answer ns day minute n = rw (ne_eqb _ _ n)
 

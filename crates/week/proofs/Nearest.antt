@@ -9,13 +9,12 @@ use mathlib.Core.Option.{Option, none, some}
 use native.Mathlib.Omega.{arith}
 use lib.Dec.{leb}
 use borrow.Author.Tests.{leb-true, leb-false, le-leb, lt-leb}
+use Rattle.std.specs.Prelude.{Some, None, Ok, Err}
 use Rattle.table.specs.declared.Refusal.TheVariants.{Week}
-use Rattle.table.specs.declared.Given.{Given}
-use Rattle.table.specs.declared.Given.TheVariants.{Number, Nothing, Refused}
 use Rattle.table.specs.Refusal.{given_by}
 use Rattle.table.proofs.Words.{zero_one}
 use Rattle.week.specs.declared.Window.{Window}
-use Rattle.week.specs.Weeks.{window_at, week_minute, until, week_begins, least, next_window}
+use Rattle.week.specs.Weeks.{Given, window_at, week_minute, until, week_begins, least, next_window}
 use Rattle.week.specs.Claims.{IsWeek, WindowOf, ValidInput, BrokenInput, Answers, passed, Holds, held, Minutes, this_week, next_week, Next, begins, no_window}
 use Rattle.week.proofs.Days.{below_seven, first_below}
 use Rattle.week.proofs.Checks.{answers_exactly, refused_exactly, answered}
@@ -112,37 +111,37 @@ next_exactly week day minute =
     answers_exactly week day minute (least (distances week day minute)) (Next week day minute) (λ k a. (λ e. subst (Next week day minute) e (next week day minute k (least (distances week day minute)) refl), gives week day minute k))
 
 -- 13 exactly on a broken week, day or minute
-pub next_refused : (week : List (List Window)) (day minute : ℕ) → (next_window week day minute ≡ Refused Week) ↔ BrokenInput week day minute
+pub next_refused : (week : List (List Window)) (day minute : ℕ) → (next_window week day minute ≡ Err Week) ↔ BrokenInput week day minute
 unfolding next_window
 next_refused week day minute = refused_exactly week day minute (least (distances week day minute))
 
 -- "a week without windows has none" ([6]), and no other
-pub next_none : (week : List (List Window)) (day minute : ℕ) → (next_window week day minute ≡ Nothing) ↔ (ValidInput week day minute × ((d : ℕ) (w : Window) → WindowOf week d w → ⊥))
-next_none week day minute = (λ e. go (answered week day minute (λ q. zero_one (cc)) ((next_exactly week day minute Nothing).0 e)), λ x. (next_exactly week day minute Nothing).1 (passed x.0 (no_window x.1)))
+pub next_none : (week : List (List Window)) (day minute : ℕ) → (next_window week day minute ≡ Ok None) ↔ (ValidInput week day minute × ((d : ℕ) (w : Window) → WindowOf week d w → ⊥))
+next_none week day minute = (λ e. go (answered week day minute (λ q. zero_one (cc)) ((next_exactly week day minute (Ok None)).0 e)), λ x. (next_exactly week day minute (Ok None)).1 (passed x.0 (no_window x.1)))
   where
-    nothing : {a : Given} → Next week day minute a → a ≡ Nothing → (d : ℕ) (w : Window) → WindowOf week d w → ⊥
+    nothing : {a : Given} → Next week day minute a → a ≡ Ok None → (d : ℕ) (w : Window) → WindowOf week d w → ⊥
     nothing (begins o m all) e = zero_one (cc)
     nothing (no_window n) e = n
 
-    go : ValidInput week day minute × Next week day minute Nothing → ValidInput week day minute × ((d : ℕ) (w : Window) → WindowOf week d w → ⊥)
+    go : ValidInput week day minute × Next week day minute (Ok None) → ValidInput week day minute × ((d : ℕ) (w : Window) → WindowOf week d w → ⊥)
     go x = (x.0, nothing x.1 refl)
 
 module _ (week : List (List Window)) (day minute : ℕ) where
   -- the window to which the minutes lead
-  led : {n : ℕ} → next_window week day minute ≡ Number n → ValidInput week day minute × LeadsTo week (week_minute day minute) n
-  led {n} e = go (answered week day minute (λ q. zero_one (cc)) ((next_exactly week day minute (Number n)).0 e))
+  led : {n : ℕ} → next_window week day minute ≡ Ok (Some n) → ValidInput week day minute × LeadsTo week (week_minute day minute) n
+  led {n} e = go (answered week day minute (λ q. zero_one (cc)) ((next_exactly week day minute (Ok (Some n))).0 e))
     where
-      to : {a : Given} → Next week day minute a → a ≡ Number n → LeadsTo week (week_minute day minute) n
+      to : {a : Given} → Next week day minute a → a ≡ Ok (Some n) → LeadsTo week (week_minute day minute) n
       to (begins {d = d} {n = m} {w = w} o r all) q =
           let p : m ≡ n = cc in
           record { of = d; window = w; stands = o; minutes = subst (Minutes (week_minute day minute) (week_minute d w.first)) p r }
       to (no_window x) q = zero_one (cc)
 
-      go : ValidInput week day minute × Next week day minute (Number n) → ValidInput week day minute × LeadsTo week (week_minute day minute) n
+      go : ValidInput week day minute × Next week day minute (Ok (Some n)) → ValidInput week day minute × LeadsTo week (week_minute day minute) n
       go x = (x.0, to x.1 refl)
 
   -- the minutes are fewer than a week has
-  pub within_a_week : {n : ℕ} → next_window week day minute ≡ Number n → n < 10080
+  pub within_a_week : {n : ℕ} → next_window week day minute ≡ Ok (Some n) → n < 10080
   within_a_week {n} e = let x = led e in go (begin_in_week x.0.week_is x.1.stands) x.1.minutes
     where
       go : {to : ℕ} → to < 10080 → Minutes (week_minute day minute) to n → n < 10080
@@ -150,7 +149,7 @@ module _ (week : List (List Window)) (day minute : ℕ) where
       go h (next_week l q) = omega arith
 
   -- "a window beginning now counts as 0" ([6]), and nothing else does
-  pub zero_exactly : (next_window week day minute ≡ Number 0) ↔ (ValidInput week day minute × (w : Window) × WindowOf week day w × (w.first ≡ minute))
+  pub zero_exactly : (next_window week day minute ≡ Ok (Some 0)) ↔ (ValidInput week day minute × (w : Window) × WindowOf week day w × (w.first ≡ minute))
   zero_exactly = (λ e. let x = led e in let p = same x.0 x.1.stands x.1.minutes in (x.0, x.1.window, p.0, p.1), back)
     where
       same : {d : ℕ} {w : Window} → ValidInput week day minute → WindowOf week d w → Minutes (week_minute day minute) (week_minute d w.first) 0 → WindowOf week day w × (w.first ≡ minute)
@@ -158,12 +157,12 @@ module _ (week : List (List Window)) (day minute : ℕ) where
           let p = on_minute {day = day} {minute = minute} {d = d} {first = w.first} k.minute_is (first_below o.a_window) (here_in_week k) r in
           (subst (λ (n : ℕ). WindowOf week n w) p.0 o, p.1)
 
-      back : ValidInput week day minute × (w : Window) × WindowOf week day w × (w.first ≡ minute) → next_window week day minute ≡ Number 0
-      back x = (next_exactly week day minute (Number 0)).1 (passed x.0 (begins x.2 (this_week (begins_now day x.3)) (λ e k v o r. omega arith)))
+      back : ValidInput week day minute × (w : Window) × WindowOf week day w × (w.first ≡ minute) → next_window week day minute ≡ Ok (Some 0)
+      back x = (next_exactly week day minute (Ok (Some 0))).1 (passed x.0 (begins x.2 (this_week (begins_now day x.3)) (λ e k v o r. omega arith)))
 
   -- after these minutes a window begins, and its packet is given at that minute
-  pub then_held : {n : ℕ} → next_window week day minute ≡ Number n
-      → (d : ℕ) × (w : Window) × WindowOf week d w × Minutes (week_minute day minute) (week_minute d w.first) n × (window_at week d w.first ≡ Number w.packet)
+  pub then_held : {n : ℕ} → next_window week day minute ≡ Ok (Some n)
+      → (d : ℕ) × (w : Window) × WindowOf week d w × Minutes (week_minute day minute) (week_minute d w.first) n × (window_at week d w.first ≡ Ok (Some w.packet))
   then_held e =
       let x = (led e).1 in
       let is = (led e).0.week_is in
@@ -172,4 +171,4 @@ module _ (week : List (List Window)) (day minute : ℕ) where
       let f = first_below x.stands.a_window in
       let k : ValidInput week x.of w.first = record { week_is = is; day_is = omega arith; minute_is = omega arith } in
       let h : Holds w.first w = record { from_first = omega arith; below_end = x.stands.a_window.first_below_end } in
-      (x.of, w, x.stands, x.minutes, (window_exactly week x.of w.first (Number w.packet)).1 (passed k (held x.stands h)))
+      (x.of, w, x.stands, x.minutes, (window_exactly week x.of w.first (Ok (Some w.packet))).1 (passed k (held x.stands h)))

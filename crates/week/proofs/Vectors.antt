@@ -4,8 +4,8 @@ use mathlib.Core.Path.{◌≡◌, refl}
 use mathlib.Core.Bool.{true, false}
 use mathlib.Core.List.{List, [], ◌∷◌, ◌++◌, map}
 use lib.ListN.{length, replicate}
+use Rattle.std.specs.Prelude.{Some, None, Ok, Err}
 use Rattle.table.specs.declared.Refusal.TheVariants.{Week}
-use Rattle.table.specs.declared.Given.TheVariants.{Number, Nothing, Refused}
 use Rattle.table.specs.Refusal.{given_by}
 use Rattle.week.specs.declared.Window.{Window}
 use Rattle.week.specs.Weeks.{is_window, is_unused, all_unused, is_day_from, is_day, all_days, is_week, passes, checked, holds, packet_at, window_at, week_minute, until, day_begins, week_begins, least, least_of, next_window}
@@ -34,26 +34,26 @@ abbrev empty : List (List Window)
 empty = no_windows ∷ no_windows ∷ no_windows ∷ no_windows ∷ no_windows ∷ no_windows ∷ no_windows ∷ []
 
 -- "the first belongs to the window, the end doesn't"; "the end of one may be the first of the next" ([6])
-pub at_borders : map (window_at example 0) (359 ∷ 360 ∷ 719 ∷ 720 ∷ 1079 ∷ 1080 ∷ []) ≡ Nothing ∷ Number 1 ∷ Number 1 ∷ Number 28 ∷ Number 28 ∷ Nothing ∷ []
+pub at_borders : map (window_at example 0) (359 ∷ 360 ∷ 719 ∷ 720 ∷ 1079 ∷ 1080 ∷ []) ≡ Ok None ∷ Ok (Some 1) ∷ Ok (Some 1) ∷ Ok (Some 28) ∷ Ok (Some 28) ∷ Ok None ∷ []
 unfolding window_at checked passes is_week all_days is_day is_day_from is_window is_unused all_unused packet_at holds given_by
 at_borders = refl
 
-pub at_the_end : map (window_at example 6) (1319 ∷ 1320 ∷ 1439 ∷ 1440 ∷ []) ≡ Nothing ∷ Number 7 ∷ Number 7 ∷ Refused Week ∷ []
+pub at_the_end : map (window_at example 6) (1319 ∷ 1320 ∷ 1439 ∷ 1440 ∷ []) ≡ Ok None ∷ Ok (Some 7) ∷ Ok (Some 7) ∷ Err Week ∷ []
 unfolding window_at checked passes is_week all_days is_day is_day_from is_window is_unused all_unused packet_at holds given_by
 at_the_end = refl
 
 -- "a window beginning now counts as 0" ([6]); from 721 on day 0 it is 6 days and 599 minutes to day 6 at 1,320
-pub ahead : map (next_window example 0) (0 ∷ 360 ∷ 361 ∷ 720 ∷ 721 ∷ []) ≡ Number 360 ∷ Number 0 ∷ Number 359 ∷ Number 0 ∷ Number (6 * 1440 + 599) ∷ []
+pub ahead : map (next_window example 0) (0 ∷ 360 ∷ 361 ∷ 720 ∷ 721 ∷ []) ≡ Ok (Some 360) ∷ Ok (Some 0) ∷ Ok (Some 359) ∷ Ok (Some 0) ∷ Ok (Some (6 * 1440 + 599)) ∷ []
 unfolding next_window checked passes is_week all_days is_day is_day_from is_window is_unused all_unused given_by least least_of week_begins day_begins until week_minute
 ahead = refl
 
 -- "wrapping once past the week's end" ([6]): from the last minute of the week it is one minute to the next week and 360 to its first window
-pub wrapped : map (next_window example 6) (1319 ∷ 1320 ∷ 1321 ∷ 1439 ∷ []) ≡ Number 1 ∷ Number 0 ∷ Number (119 + 360) ∷ Number 361 ∷ []
+pub wrapped : map (next_window example 6) (1319 ∷ 1320 ∷ 1321 ∷ 1439 ∷ []) ≡ Ok (Some 1) ∷ Ok (Some 0) ∷ Ok (Some (119 + 360)) ∷ Ok (Some 361) ∷ []
 unfolding next_window checked passes is_week all_days is_day is_day_from is_window is_unused all_unused given_by least least_of week_begins day_begins until week_minute
 wrapped = refl
 
 -- an earlier window of the same day counts for next week, which is 10,080 minutes later; "a week without windows has none" ([6])
-pub same_day : (map (next_window single 3) (599 ∷ 600 ∷ 601 ∷ []) ≡ Number 1 ∷ Number 0 ∷ Number 10079 ∷ []) × (next_window empty 3 600 ≡ Nothing)
+pub same_day : (map (next_window single 3) (599 ∷ 600 ∷ 601 ∷ []) ≡ Ok (Some 1) ∷ Ok (Some 0) ∷ Ok (Some 10079) ∷ []) × (next_window empty 3 600 ≡ Ok None)
 unfolding next_window checked passes is_week all_days is_day is_day_from is_window is_unused all_unused given_by least least_of week_begins day_begins until week_minute
 same_day = (refl, refl)
 
@@ -81,14 +81,14 @@ unfolding is_day_from is_window is_unused all_unused
 broken_days = refl
 
 -- a wrap to a day with several earlier windows is to the first of them: from 1,080 on day 0 of the week that has only this day's, 10,080 less 720
-pub first_of_several : next_window (several ∷ no_windows ∷ no_windows ∷ no_windows ∷ no_windows ∷ no_windows ∷ no_windows ∷ []) 0 1080 ≡ Number 9360
+pub first_of_several : next_window (several ∷ no_windows ∷ no_windows ∷ no_windows ∷ no_windows ∷ no_windows ∷ no_windows ∷ []) 0 1080 ≡ Ok (Some 9360)
 unfolding next_window checked passes is_week all_days is_day is_day_from is_window is_unused all_unused given_by least least_of week_begins day_begins until week_minute
 first_of_several = refl
 
 -- "13, a broken week, day or minute, before all else" ([6]): a day above 6, a minute above 1,439, and a day that is broken, though another is asked for
-pub refusals : (map (λ (d : ℕ). window_at example d 0) (6 ∷ 7 ∷ []) ≡ Nothing ∷ Refused Week ∷ []) × (map (next_window example 6) (1439 ∷ 1440 ∷ []) ≡ Number 361 ∷ Refused Week ∷ [])
-    × (window_at (several ∷ no_windows ∷ no_windows ∷ no_windows ∷ no_windows ∷ no_windows ∷ alone (window 0 1 29) ∷ []) 0 360 ≡ Refused Week)
-    × (next_window (several ∷ no_windows ∷ no_windows ∷ no_windows ∷ no_windows ∷ no_windows ∷ alone (window 0 1 29) ∷ []) 0 360 ≡ Refused Week)
+pub refusals : (map (λ (d : ℕ). window_at example d 0) (6 ∷ 7 ∷ []) ≡ Ok None ∷ Err Week ∷ []) × (map (next_window example 6) (1439 ∷ 1440 ∷ []) ≡ Ok (Some 361) ∷ Err Week ∷ [])
+    × (window_at (several ∷ no_windows ∷ no_windows ∷ no_windows ∷ no_windows ∷ no_windows ∷ alone (window 0 1 29) ∷ []) 0 360 ≡ Err Week)
+    × (next_window (several ∷ no_windows ∷ no_windows ∷ no_windows ∷ no_windows ∷ no_windows ∷ alone (window 0 1 29) ∷ []) 0 360 ≡ Err Week)
 unfolding window_at next_window checked passes is_week all_days is_day is_day_from is_window is_unused all_unused packet_at holds given_by least least_of week_begins day_begins until week_minute
 refusals = (refl, refl, refl, refl)
 
@@ -100,6 +100,6 @@ pub lent_example : (week_of numbers ≡ example) × (length numbers ≡ 84)
 unfolding week_of day_of place_of
 lent_example = (refl, refl)
 
-pub other_counts : map (λ (ns : List ℕ). lent window_at ns 0 0) ([] ∷ replicate 83 0 ∷ replicate 84 0 ∷ replicate 85 0 ∷ []) ≡ Refused Week ∷ Refused Week ∷ Nothing ∷ Refused Week ∷ []
+pub other_counts : map (λ (ns : List ℕ). lent window_at ns 0 0) ([] ∷ replicate 83 0 ∷ replicate 84 0 ∷ replicate 85 0 ∷ []) ≡ Err Week ∷ Err Week ∷ Ok None ∷ Err Week ∷ []
 unfolding lent week_of day_of place_of window_at checked passes is_week all_days is_day is_day_from is_window is_unused all_unused packet_at holds given_by
 other_counts = refl

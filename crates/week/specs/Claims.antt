@@ -1,11 +1,9 @@
 -- What is claimed of the two answers: when each of them is given. Assumes nothing: these are definitions.
-use Rattle.std.specs.Prelude.{ℕ, ◌+◌, ◌≤◌, ◌<◌, ◌≡◌, length, get_or, replicate}
+use Rattle.std.specs.Prelude.{ℕ, ◌+◌, ◌≤◌, ◌<◌, ◌≡◌, length, get_or, replicate, Some, None, Ok, Err}
 use mathlib.Core.List.{List, [], ◌∷◌, ◌++◌, Memᴰ}
 use Rattle.table.specs.declared.Refusal.TheVariants.{Week}
-use Rattle.table.specs.declared.Given.{Given}
-use Rattle.table.specs.declared.Given.TheVariants.{Number, Nothing, Refused}
 use Rattle.week.specs.declared.Window.{Window}
-use Rattle.week.specs.Weeks.{week_minute}
+use Rattle.week.specs.Weeks.{Given, week_minute}
 
 -- "a window being a first minute, an end minute and a packet number from 1 to 28. Minutes run from 0 to 1,440, the first below the end" ([6])
 pub record IsWindow (w : Window) : Type 0 where
@@ -60,7 +58,7 @@ pub data BrokenInput (week : List (List Window)) (day minute : ℕ) : Type 0 whe
 -- "Checks: 13, a broken week, day or minute, before all else." ([6]): 13 on broken input, else an answer that `Otherwise` allows
 pub data Answers (week : List (List Window)) (day minute : ℕ) (Otherwise : Given → Type 0) : Given → Type 0 where
   passed : {a : Given} → ValidInput week day minute → Otherwise a → Answers week day minute Otherwise a
-  refused : BrokenInput week day minute → Answers week day minute Otherwise (Refused Week)
+  refused : BrokenInput week day minute → Answers week day minute Otherwise (Err Week)
 
 -- "the first belongs to the window, the end doesn't" ([6]): w holds the minute m
 pub record Holds (m : ℕ) (w : Window) : Type 0 where
@@ -69,8 +67,8 @@ pub record Holds (m : ℕ) (w : Window) : Type 0 where
 
 -- The packet at a minute: "the packet number, or none exactly when no window holds that minute" ([6])
 pub data At (week : List (List Window)) (day minute : ℕ) : Given → Type 0 where
-  held : {w : Window} → WindowOf week day w → Holds minute w → At week day minute (Number w.packet)
-  not_held : ((w : Window) → WindowOf week day w → Holds minute w → ⊥) → At week day minute Nothing
+  held : {w : Window} → WindowOf week day w → Holds minute w → At week day minute (Ok (Some w.packet))
+  not_held : ((w : Window) → WindowOf week day w → Holds minute w → ⊥) → At week day minute (Ok None)
 
 -- n minutes lead from one minute of the week to another, "wrapping once past the week's end" ([6])
 pub data Minutes (from to n : ℕ) : Type 0 where
@@ -81,5 +79,5 @@ pub data Minutes (from to n : ℕ) : Type 0 where
 pub data Next (week : List (List Window)) (day minute : ℕ) : Given → Type 0 where
   begins : {d n : ℕ} {w : Window} → WindowOf week d w → Minutes (week_minute day minute) (week_minute d w.first) n
       → ((e k : ℕ) (v : Window) → WindowOf week e v → Minutes (week_minute day minute) (week_minute e v.first) k → n ≤ k)
-      → Next week day minute (Number n)
-  no_window : ((d : ℕ) (w : Window) → WindowOf week d w → ⊥) → Next week day minute Nothing
+      → Next week day minute (Ok (Some n))
+  no_window : ((d : ℕ) (w : Window) → WindowOf week d w → ⊥) → Next week day minute (Ok None)

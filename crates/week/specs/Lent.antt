@@ -1,9 +1,8 @@
 -- How a week is lent to the exported functions: 84 numbers, seven days of four places of first, end and packet. Assumes nothing: these are definitions.
-use Rattle.std.specs.Prelude.{ℕ, ◌+◌, cond, List, [], ◌∷◌, ◌++◌, eqb, length, get_or}
+use Rattle.std.specs.Prelude.{ℕ, ◌+◌, cond, List, [], ◌∷◌, ◌++◌, eqb, length, get_or, Err}
 use Rattle.table.specs.declared.Refusal.TheVariants.{Week}
-use Rattle.table.specs.declared.Given.{Given}
-use Rattle.table.specs.declared.Given.TheVariants.{Refused}
 use Rattle.week.specs.declared.Window.{Window}
+use Rattle.week.specs.Weeks.{Given}
 
 -- the place, and the day, whose numbers begin at k
 unfoldable pub place_of : List ℕ → ℕ → Window
@@ -26,4 +25,4 @@ week_numbers (day ∷ days) = day_numbers day ++ week_numbers days
 
 -- the answer for a week that is lent as numbers; any count but 84 is a broken week
 unfoldable pub lent : (List (List Window) → ℕ → ℕ → Given) → List ℕ → ℕ → ℕ → Given
-lent answer ns day minute = cond (eqb (length ns) 84) (answer (week_of ns) day minute) (Refused Week)
+lent answer ns day minute = cond (eqb (length ns) 84) (answer (week_of ns) day minute) (Err Week)

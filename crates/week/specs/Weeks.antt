@@ -1,12 +1,16 @@
 -- A week of windows, the packet at a minute, and the minutes until the next window begins (document 02, [6]). A week is the list of its days, a day the list
 -- of its places. Assumes nothing: these are definitions.
-use Rattle.std.specs.Prelude.{ℕ, suc, ◌+◌, ◌-◌, ◌*◌, Bool, true, cond, ◌&&◌, List, [], ◌∷◌, ◌++◌, map, leb, ltb, eqb, length, get_or}
+use Rattle.std.specs.Prelude.{ℕ, suc, ◌+◌, ◌-◌, ◌*◌, Bool, true, cond, ◌&&◌, List, [], ◌∷◌, ◌++◌, map, leb, ltb, eqb, length, get_or, Result, Err}
+use Rattle.std.specs.Prelude as code
 use Rattle.std.proofs.Math.Option.{Option, none, some}
+use Rattle.table.specs.declared.Refusal.{Refusal}
 use Rattle.table.specs.declared.Refusal.TheVariants.{Week}
-use Rattle.table.specs.declared.Given.{Given}
-use Rattle.table.specs.declared.Given.TheVariants.{Refused}
 use Rattle.table.specs.Refusal.{given_by}
 use Rattle.week.specs.declared.Window.{Window}
+
+-- an answer: a number, none, or a refusal
+abbrev pub Given : Type 0
+Given = Result (code.Option ℕ) Refusal
 
 -- "a window being a first minute, an end minute and a packet number from 1 to 28. Minutes run from 0 to 1,440, the first below the end" ([6])
 unfoldable pub is_window : Window → Bool
@@ -43,7 +47,7 @@ unfoldable pub passes : List (List Window) → ℕ → ℕ → Bool
 passes week day minute = leb day 6 && (leb minute 1439 && is_week week)
 
 unfoldable pub checked : List (List Window) → ℕ → ℕ → Option ℕ → Given
-checked week day minute answer = cond (passes week day minute) (given_by answer) (Refused Week)
+checked week day minute answer = cond (passes week day minute) (given_by answer) (Err Week)
 
 -- "the first belongs to the window, the end doesn't" ([6])
 unfoldable pub holds : ℕ → Window → Bool

@@ -8,7 +8,7 @@ use native.Mathlib.Omega.{arith}
 use lib.Dec.{leb}
 use lib.ListN.{get_or}
 use borrow.Author.Tests.{leb-true, leb-false}
-use Rattle.table.specs.declared.Given.TheVariants.{Number, Nothing}
+use Rattle.std.specs.Prelude.{Some, None, Ok}
 use Rattle.week.specs.declared.Window.{Window}
 use Rattle.week.specs.Weeks.{week_minute, next_window}
 use Rattle.week.specs.Claims.{IsDay, WindowOf, ValidInput, passed, Minutes, this_week, next_week, begins, no_window}
@@ -101,10 +101,10 @@ module _ (week : List (List Window)) (day minute : ℕ) where
                 let l = x.below v i o.a_window (omega arith) in
                 omega arith
 
-        next_is : Number (k * 1440 + b - minute) ≡ next_window week day minute
+        next_is : Ok (Some (k * 1440 + b - minute)) ≡ next_window week day minute
         next_is = sym ((next_exactly week day minute _).1 (passed input (begins at_first leads least)))
 
-      pub found : (b : ℕ) → k < 8 → first_from (minute - k * 1440) (get_or week ((day + k) % 7) []) ≡ some b → Number (k * 1440 + b - minute) ≡ next_window week day minute
+      pub found : (b : ℕ) → k < 8 → first_from (minute - k * 1440) (get_or week ((day + k) % 7) []) ≡ some b → Ok (Some (k * 1440 + b - minute)) ≡ next_window week day minute
       found b few e = next_is (first_found (minute - k * 1440) (day_ahead k) b e) few
 
       pub reaches : (b : ℕ) → first_from (minute - k * 1440) (get_or week ((day + k) % 7) []) ≡ some b → (minute ≤ k * 1440 + b) × (b < 1440)
@@ -124,5 +124,5 @@ module _ (week : List (List Window)) (day minute : ℕ) where
         let r = until_is (week_minute day minute) (week_minute d w.first) (here_in_week input) in
         beyond (begin_in_week input.week_is o) r (p d _ w o r)
 
-    pub none_ahead : NoneWithin 8 → Nothing ≡ next_window week day minute
+    pub none_ahead : NoneWithin 8 → Ok None ≡ next_window week day minute
     none_ahead p = sym ((next_exactly week day minute _).1 (passed input (no_window (never p))))

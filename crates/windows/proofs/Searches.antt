@@ -1,34 +1,41 @@
--- Laws of the two searches through the places of a day, from place i on. Assumes nothing.
+-- Laws of the two searches through the places of a day. Assumes nothing.
 use Prim.Native.Nat.{ℕ, ◌+◌, ◌≤◌, ◌<◌}
-use mathlib.Core.Path.{◌≡◌, ap, ◌∙◌}
-use mathlib.Core.Bool.{cond}
-use mathlib.Core.List.{List}
+use mathlib.Core.Path.{◌≡◌, refl, ap, ◌∙◌}
+use mathlib.Core.Bool.{Bool, true, false, cond}
+use mathlib.Core.List.{List, [], ◌∷◌}
 use mathlib.Core.Option.{none, some}
 use lib.Dec.{leb, eqb}
 use lib.ListN.{length, get_or, drop, drop_of_length-le}
-use borrow.Author.Tests.{le-leb, lt-leb, lt-ltb, le-ltb, eq-eqb, ne_eqb}
+use borrow.Author.Tests.{le-leb, lt-leb, eq-eqb, ne_eqb}
+use Rattle.std.specs.Prelude.{Option, Some, None, option_map}
+use Rattle.std.specs.List.{find}
+use denote.Bor.{Bor}
 use Rattle.week.specs.declared.Window.{Window}
 use Rattle.week.specs.Weeks.{holds, packet_at}
 use Rattle.table.proofs.Lists.{from_place}
-use Rattle.windows.specs.Code.{first_from}
+use Rattle.windows.specs.Code.{found_of, first_from}
 
+-- the packet of the first place that holds the minute
+first_holding : (minute : ℕ) (day : List Window) → found_of (option_map (λ (w : Window). w.packet) (find (holds minute) day)) ≡ packet_at minute day
+unfolding packet_at found_of
+first_holding minute [] = refl
+first_holding minute (w ∷ ws) = go (holds minute w) (first_holding minute ws)
+  where
+    go : (z : Bool) → found_of (option_map (λ (v : Window). v.packet) (find (holds minute) ws)) ≡ packet_at minute ws
+        → found_of (option_map (λ (v : Window). v.packet) (cond z (Some w) (find (holds minute) ws))) ≡ cond z (some w.packet) (packet_at minute ws)
+    go true e = refl
+    go false e = e
+
+pub packet_found : (minute : ℕ) (day : List Window) (o : Option (Bor Window)) {r : Option ℕ} → option_map (λ (b : Bor Window). b.now) o ≡ find (holds minute) day
+    → r ≡ option_map (λ (b : Bor Window). b.now.packet) o → found_of r ≡ packet_at minute day
+packet_found minute day o e q = ap found_of (q ∙ go o ∙ ap (option_map (λ (w : Window). w.packet)) e) ∙ first_holding minute day
+  where
+    go : (x : Option (Bor Window)) → option_map (λ (b : Bor Window). b.now.packet) x ≡ option_map (λ (w : Window). w.packet) (option_map (λ (b : Bor Window). b.now) x)
+    go (Some b) = refl
+    go None = refl
+
+-- the search for the next beginning, from place i on
 module _ (minute : ℕ) (day : List Window) (i : ℕ) (z : Window) (h : i < length day) where
-  packet_place : packet_at minute (drop i day) ≡ cond (holds minute (get_or day i z)) (some (get_or day i z).packet) (packet_at minute (drop (i + 1) day))
-  unfolding packet_at
-  packet_place = ap (packet_at minute) (from_place day i z h)
-
-  pub packet_here : (get_or day i z).first ≤ minute → minute < (get_or day i z).end → packet_at minute (drop i day) ≡ some (get_or day i z).packet
-  unfolding holds
-  packet_here a b = packet_place ∙ rw (le-leb _ _ a, lt-ltb _ _ b)
-
-  pub packet_before : minute < (get_or day i z).first → packet_at minute (drop i day) ≡ packet_at minute (drop (i + 1) day)
-  unfolding holds
-  packet_before a = packet_place ∙ rw (lt-leb _ _ a)
-
-  pub packet_after : (get_or day i z).first ≤ minute → (get_or day i z).end ≤ minute → packet_at minute (drop i day) ≡ packet_at minute (drop (i + 1) day)
-  unfolding holds
-  packet_after a b = packet_place ∙ rw (le-leb _ _ a, le-ltb _ _ b)
-
   first_place : first_from minute (drop i day)
       ≡ cond (eqb (get_or day i z).packet 0) none (cond (leb minute (get_or day i z).first) (some (get_or day i z).first) (first_from minute (drop (i + 1) day)))
   unfolding first_from
@@ -44,10 +51,6 @@ module _ (minute : ℕ) (day : List Window) (i : ℕ) (z : Window) (h : i < leng
   first_later a b = first_place ∙ rw (ne_eqb _ _ a, lt-leb _ _ b)
 
 module _ (minute : ℕ) (day : List Window) (i : ℕ) (h : length day ≤ i) where
-  pub packet_end : packet_at minute (drop i day) ≡ none
-  unfolding packet_at
-  packet_end = ap (packet_at minute) (drop_of_length-le day h)
-
   pub first_end : first_from minute (drop i day) ≡ none
   unfolding first_from
   first_end = ap (first_from minute) (drop_of_length-le day h)

@@ -16,4 +16,4 @@ pub bounds-week-day : goal.bounds-week-day
 bounds-week-day c = day_below _ _ _ (sym c.passes.ensures ∙ c.if-not-passes.false)
 
 pub returns : goal.returns
-returns c = at_packet _ _ _ (sym c.passes.ensures ∙ c.if-not-passes.false) _ c.packet_at.ensures
+returns c = at_packet _ _ _ (sym c.passes.ensures ∙ c.if-not-passes.false) _ c.packet_at.result c.packet_at.ensures
