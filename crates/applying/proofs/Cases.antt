@@ -13,15 +13,14 @@ use Rattle.table.specs.Refusal.{number, clears}
 use Rattle.table.specs.declared.Refusal.{Refusal}
 use Rattle.table.proofs.Words.{zero_one, and_left, and_right}
 use Rattle.table.proofs.Entry.{entered, enters, entry_lacks, lacks_entry, entry_keeps}
-use Rattle.applying.specs.declared.Applied.TheVariants.{Refused}
 use Rattle.applying.specs.Machine.{uses}
-use Rattle.applying.specs.Apply.{settle, begin, apply_nodes, apply}
+use Rattle.applying.specs.Apply.{settle, begin, apply_nodes, apply, not_applied}
 use Rattle.applying.specs.Lacks.{ChecksLack, early, not_in_use}
 use Rattle.applying.specs.States.{Good}
 
 -- The two ways to an outcome of Apply: "1, also for a step limit above 1,000,000. 2. 3 for either number. Then 7, 8, 9 as the rules say."
 pub data Ways (w : List ℕ) (u : ℕ) (s : List ℕ) (f n limit : ℕ) : Type 0 where
-  refused : {e : Refusal} → ChecksLack w u s f n limit e → apply w u s f n limit ≡ whole (Refused e) w s → Ways w u s f n limit
+  refused : {e : Refusal} → ChecksLack w u s f n limit e → apply w u s f n limit ≡ whole (not_applied e) w s → Ways w u s f n limit
   ran : Entered (leb limit 1000000) w u s → f < u → n < u
       → apply w u s f n limit ≡ settle u s (uses (frames s) limit (begin w u f n)) → Ways w u s f n limit
 

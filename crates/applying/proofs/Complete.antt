@@ -19,9 +19,8 @@ use Rattle.table.specs.declared.Refusal.{Refusal}
 use Rattle.table.specs.declared.Refusal.TheVariants.{Steps, Nodes, Frames}
 use Rattle.table.proofs.Trees.{kept_refl}
 use Rattle.table.proofs.Entry.{enters}
-use Rattle.applying.specs.declared.Applied.TheVariants.{Node, Refused}
 use Rattle.applying.specs.Machine.{State, wanted, Turn, more, done, stop, turn, after, uses}
-use Rattle.applying.specs.Apply.{settle, begin, apply_nodes, apply}
+use Rattle.applying.specs.Apply.{settle, begin, apply_nodes, apply, applied, not_applied}
 use Rattle.applying.specs.Lacks.{Lacks, no_place, all_held}
 use Rattle.applying.specs.States.{Good}
 use Rattle.applying.specs.Claims.{Gives}
@@ -61,7 +60,7 @@ uses_end (suc m) {all} {s} g o k x h =
 -- rules say."
 pub apply_complete : {w : List ℕ} {u : ℕ} {s : List ℕ} {f n limit : ℕ} → Entered (leb limit 1000000) w u s → f < u → n < u
     → {r : Tree} {k : Uses} → Apply (tree_at w f) (tree_at w n) r k → steps k ≤ limit
-    → Gives w u s f n limit r k ⊎ ((apply w u s f n limit).answer ≡ Refused Nodes) ⊎ ((apply w u s f n limit).answer ≡ Refused Frames)
+    → Gives w u s f n limit r k ⊎ ((apply w u s f n limit).answer ≡ not_applied Nodes) ⊎ ((apply w u s f n limit).answer ≡ not_applied Frames)
 unfolding apply apply_nodes settle stopped
 apply_complete {w} {u} {s} {f} {n} {limit} e h l {r} {k} d m =
     rw (enters e, lt-ltb f u h, lt-ltb n u l)
@@ -73,26 +72,26 @@ apply_complete {w} {u} {s} {f} {n} {limit} e h l {r} {k} d m =
     b : State
     b = begin w u f n
 
-    lacked : {z : State} {c : Refusal} → Lacks all z c → (Refused c ≡ Refused Nodes) ⊎ (Refused c ≡ Refused Frames)
+    lacked : {z : State} {c : Refusal} → Lacks all z c → (not_applied c ≡ not_applied Nodes) ⊎ (not_applied c ≡ not_applied Frames)
     lacked (no_place h f l) = inl refl
     lacked (all_held h l) = inr refl
 
     by : (x : Turn) → uses all limit b ≡ x → Ends r (no_uses ⊕ k) x
-        → ((v : ℕ) × (u' : ℕ) × ((settle u s x).answer ≡ Node v u' (steps k) k) × (tree_at (settle u s x).table v ≡ r))
-        ⊎ ((settle u s x).answer ≡ Refused Nodes) ⊎ ((settle u s x).answer ≡ Refused Frames)
+        → ((v : ℕ) × (u' : ℕ) × ((settle u s x).answer ≡ applied v u' (steps k) k) × (tree_at (settle u s x).table v ≡ r))
+        ⊎ ((settle u s x).answer ≡ not_applied Nodes) ⊎ ((settle u s x).answer ≡ not_applied Frames)
     by (more z) q y = absurd y
     by (done p j) q y = let z : j ≡ k = y.1 ∙ none_uses k in inl (p.node, p.table.used, rw z, y.0)
     by (stop c t) q y =
         inr (lacked (stop_lacks all limit b c t q).3)
 
 -- "refusal 7 if the step limit is reached": where Apply is refused for steps, the rules give no tree in `limit` uses or fewer.
-pub steps_used_up : (w : List ℕ) (u : ℕ) (s : List ℕ) (f n limit : ℕ) → (apply w u s f n limit).answer ≡ Refused Steps
+pub steps_used_up : (w : List ℕ) (u : ℕ) (s : List ℕ) (f n limit : ℕ) → (apply w u s f n limit).answer ≡ not_applied Steps
     → {r : Tree} {k : Uses} → Apply (tree_at w f) (tree_at w n) r k → limit < steps k
 unfolding clears number
 steps_used_up w u s f n limit e {r} {k} d = go (ways w u s f n limit) (leb (steps k) limit) refl
   where
-    never : Gives w u s f n limit r k ⊎ ((apply w u s f n limit).answer ≡ Refused Nodes) ⊎ ((apply w u s f n limit).answer ≡ Refused Frames) → ⊥
-    never (inl x) = let c : Refused Steps ≡ Node x.0 x.1 (steps k) k = cc in let n : ◌≡◌ {A = ℕ} 0 1 = cc in omega arith
+    never : Gives w u s f n limit r k ⊎ ((apply w u s f n limit).answer ≡ not_applied Nodes) ⊎ ((apply w u s f n limit).answer ≡ not_applied Frames) → ⊥
+    never (inl x) = let c : not_applied Steps ≡ applied x.0 x.1 (steps k) k = cc in let n : ◌≡◌ {A = ℕ} 0 1 = cc in omega arith
     never (inr (inl x)) = let n : ◌≡◌ {A = ℕ} 0 1 = cc in omega arith
     never (inr (inr x)) = let n : ◌≡◌ {A = ℕ} 0 1 = cc in omega arith
 

@@ -4,6 +4,7 @@ use mathlib.Core.Path.{◌≡◌, refl, sym, ap, ◌∙◌, subst}
 use mathlib.Core.List.{List}
 use native.Mathlib.Omega.{arith}
 use lib.Dec.{leb}
+use Rattle.std.specs.Prelude.{Err, Ok, Result}
 use Rattle.calculus.specs.Tree.{Tree}
 use Rattle.calculus.specs.declared.Uses.{Uses}
 use Rattle.calculus.specs.Uses.{no_uses, ◌⊕◌, steps, new_nodes}
@@ -17,11 +18,11 @@ use Rattle.table.specs.declared.Refusal.{Refusal}
 use Rattle.table.specs.Claims.{Kept}
 use Rattle.table.proofs.Trees.{kept_refl, kept_tree}
 use Rattle.table.proofs.Entry.{enters, stopped_kept}
-use Rattle.applying.specs.declared.Applied.{Applied}
-use Rattle.applying.specs.declared.Applied.TheVariants.{Node, Refused}
+use Rattle.table.proofs.Laid.{same_ok}
 use Rattle.applying.specs.Machine.{State, wanted, Turn, more, done, stop, turn, after, uses}
-use Rattle.applying.specs.Apply.{applied_numbers, applied_uses, settle, begin, apply}
+use Rattle.applying.specs.Apply.{applied_numbers, applied_uses, settle, begin, apply, applied, not_applied}
 use Rattle.applying.specs.States.{Good}
+use Rattle.applying.specs.declared.Applied.{Applied}
 pub use Rattle.applying.specs.Claims.{Follows}
 use Rattle.applying.proofs.States.{table_of, Later, turn_later, uses_later, one_use, uses_next, Took, turn_took, Counted, uses_steps, New, uses_new}
 use Rattle.applying.proofs.Leads.{Leads, TurnLeads, leads_before}
@@ -76,7 +77,7 @@ alone {t = t} {a = a} p q r = sym (uses_none a) ∙ ap (λ (x : Uses). a ⊕ x) 
 module _ (w : List ℕ) (u : ℕ) (s : List ℕ) (f n limit : ℕ) where
   settle_follows : (v u' m : ℕ) (k : Uses) → Entered (leb limit 1000000) w u s → f < u → n < u
       → (x : Turn) → uses (frames s) limit (begin w u f n) ≡ x → apply w u s f n limit ≡ settle u s x
-      → (settle u s x).answer ≡ Node v u' m k → Follows w u s f n limit v u' m k
+      → (settle u s x).answer ≡ applied v u' m k → Follows w u s f n limit v u' m k
   unfolding settle stopped
   settle_follows v u' m k i h l (more z) q r e = let c : ◌≡◌ {A = ℕ} 0 1 = cc in absurd (omega arith)
   settle_follows v u' m k i h l (stop d t) q r e = let c : ◌≡◌ {A = ℕ} 0 1 = cc in absurd (omega arith)
@@ -86,10 +87,11 @@ module _ (w : List ℕ) (u : ℕ) (s : List ℕ) (f n limit : ℕ) where
       let z = uses_follow limit g p j q in
       let c = subst (Counted 0 limit) q (uses_steps (frames s) limit (begin w u f n)) in
       let new = subst (New (begin w u f n)) q (uses_new (frames s) limit (begin w u f n)) in
-      let a : p.node ≡ v = cc in
-      let b : p.table.used ≡ u' = cc in
-      let d : j ≡ k = cc in
-      let o : steps j ≡ m = cc in
+      let given_is : applied p.node p.table.used (steps j) j ≡ applied v u' m k = e in
+      let a : p.node ≡ v = ap (λ (x : Applied). x.node) (same_ok given_is) in
+      let b : p.table.used ≡ u' = ap (λ (x : Applied). x.used) (same_ok given_is) in
+      let d : j ≡ k = ap (λ (x : Applied). x.uses) (same_ok given_is) in
+      let o : steps j ≡ m = ap (λ (x : Applied). x.steps) (same_ok given_is) in
       let same : (i : ℕ) → i < u → tree_at p.table.words i ≡ tree_at w i = kept_tree i.table y.extends.kept in
       let goes = z.leads.goes in
       let all : z.leads.taken ≡ k = alone z.counted z.leads.counted goes.1 ∙ d in
@@ -114,7 +116,7 @@ module _ (w : List ℕ) (u : ℕ) (s : List ℕ) (f n limit : ℕ) where
   -- An application that completes follows the five rules with exactly the uses that it reports: "Each use is one step, counted when taken". "Their sum is the
   -- steps" ([5]), and leaf plus stem is at least the number of nodes made ([8]). "Success also sets the stack to 0, and no other table word than those of new
   -- nodes changes", so old nodes keep their trees.
-  pub apply_follows : (v u' j : ℕ) (k : Uses) → (apply w u s f n limit).answer ≡ Node v u' j k → Follows w u s f n limit v u' j k
+  pub apply_follows : (v u' j : ℕ) (k : Uses) → (apply w u s f n limit).answer ≡ applied v u' j k → Follows w u s f n limit v u' j k
   apply_follows v u' j k e = go (ways w u s f n limit)
     where
       go : Ways w u s f n limit → Follows w u s f n limit v u' j k
@@ -126,13 +128,13 @@ module _ (w : List ℕ) (u : ℕ) (s : List ℕ) (f n limit : ℕ) where
   unfolding applied_numbers applied_uses refused_numbers
   apply_sum = go (apply w u s f n limit).answer refl
     where
-      go : (a : Applied) → (apply w u s f n limit).answer ≡ a → (applied_numbers u a).steps ≡ steps (applied_uses a)
-      go (Node v u' j k) e = (apply_follows v u' j k e).steps_are
-      go (Refused d) e = refl
+      go : (a : (Result Applied Refusal)) → (apply w u s f n limit).answer ≡ a → (applied_numbers u a).steps ≡ steps (applied_uses a)
+      go (Ok m) e = (apply_follows m.node m.used m.steps m.uses e).steps_are
+      go (Err d) e = refl
 
   -- A refused application leaves the nodes in use as they were: "Numbers 1 to 6 [..] leave lent memory as found. Numbers 7 to 10 set to 0 the words
   -- of the nodes made in the call".
-  pub apply_refused : (e : Refusal) → (apply w u s f n limit).answer ≡ Refused e
+  pub apply_refused : (e : Refusal) → (apply w u s f n limit).answer ≡ not_applied e
       → Kept (record { words = w; used = u }) (record { words = (apply w u s f n limit).table; used = u })
   unfolding settle stopped
   apply_refused d e = go (ways w u s f n limit)
@@ -140,7 +142,7 @@ module _ (w : List ℕ) (u : ℕ) (s : List ℕ) (f n limit : ℕ) where
       t : Table
       t = record { words = w; used = u }
 
-      left : {all : ℕ} (x : Turn) → Later all t x → (settle u s x).answer ≡ Refused d → Kept t (record { words = (settle u s x).table; used = u })
+      left : {all : ℕ} (x : Turn) → Later all t x → (settle u s x).answer ≡ not_applied d → Kept t (record { words = (settle u s x).table; used = u })
       left (more z) l q = stopped_kept l.extends.kept l.fine.within
       left (stop c z) l q = stopped_kept l.extends.kept l.fine.within
       left (done p j) l q = let c : ◌≡◌ {A = ℕ} 0 1 = cc in absurd (omega arith)

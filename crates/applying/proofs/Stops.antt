@@ -9,6 +9,7 @@ use native.Mathlib.Omega.{arith}
 use borrow.Author.Tests.{le-ltb, lt-ltb, ltb-true}
 use lib.ListN.{length}
 use lib.Dec.{ltb}
+use Rattle.std.specs.Prelude.{Result}
 use Rattle.calculus.specs.declared.Uses.{Uses}
 use Rattle.calculus.specs.Uses.{no_uses}
 use Rattle.table.specs.Nodes.{capacity, find, cleared}
@@ -22,11 +23,10 @@ use Rattle.table.proofs.Making.{make_full}
 use Rattle.table.proofs.Entry.{enters, lacks_entry, cleared_back}
 use Rattle.applying.specs.declared.Rule.{Rule}
 use Rattle.applying.specs.declared.Rule.TheVariants.{Leaf, Stem, Drop, Spread, Triage}
-use Rattle.applying.specs.declared.Applied.{Applied}
-use Rattle.applying.specs.declared.Applied.TheVariants.{Refused}
 use Rattle.applying.specs.Machine.{needs_frame, State, wanted, Turn, more, done, stop, grow_by, grow, hold, use_rule, turn, after, uses}
-use Rattle.applying.specs.Apply.{applied_uses, settle, begin, apply_nodes, apply}
+use Rattle.applying.specs.Apply.{applied_uses, settle, begin, apply_nodes, apply, not_applied}
 use Rattle.applying.specs.Lacks.{WantsNode, of_leaf, of_stem, early, not_in_use, Lacks, no_place, all_held, Halts, limit_reached, at_use, ApplyLacks, of_entry, halts}
+use Rattle.applying.specs.declared.Applied.{Applied}
 use Rattle.applying.proofs.States.{table_of, uses_next, turn_is, turn_by, Later, uses_later, Counted, uses_steps, uses_add}
 use Rattle.applying.proofs.Cases.{Ways, refused, ran, ways, checks_keep, good_begin}
 
@@ -80,7 +80,7 @@ module _ (all : ℕ) (z : State) where
   lacks_stop (all_held n h) = turn_is all z ∙ frame_lacks (uses_next z) (wanted z) n h
 
 -- where the uses stop, an application is refused
-halts_refused : {all limit : ℕ} {s : State} {e : Refusal} (u : ℕ) (x : List ℕ) → Halts all limit s e → (settle u x (uses all limit s)).answer ≡ Refused e
+halts_refused : {all limit : ℕ} {s : State} {e : Refusal} (u : ℕ) (x : List ℕ) → Halts all limit s e → (settle u x (uses all limit s)).answer ≡ not_applied e
 unfolding settle stopped uses after
 halts_refused u x (limit_reached q c) = rw q
 halts_refused {all} {limit} {s} u x (at_use {z} {j} h q l) =
@@ -101,7 +101,7 @@ halts_clears (at_use h k l) = lacks_clears l
 module _ (w : List ℕ) (u : ℕ) (s : List ℕ) (f n limit : ℕ) where
   -- Apply is refused only on the refusal's condition: "1, also for a step limit above 1,000,000. 2. 3 for either number. Then 7, 8, 9 as the rules say."
   -- The checks leave table and stack as found; after them exactly the words of the nodes made, and the stack, are set to 0.
-  pub apply_lacks : (e : Refusal) → (apply w u s f n limit).answer ≡ Refused e
+  pub apply_lacks : (e : Refusal) → (apply w u s f n limit).answer ≡ not_applied e
       → ApplyLacks w u s f n limit e (apply w u s f n limit).table (apply w u s f n limit).stack
   unfolding settle stopped
   apply_lacks e q = go (ways w u s f n limit)
@@ -116,7 +116,7 @@ module _ (w : List ℕ) (u : ℕ) (s : List ℕ) (f n limit : ℕ) where
           → cleared (table_of x).words (u * 2) ((table_of x).used * 2) ≡ cleared w (u * 2) ((table_of (uses all limit b)).used * 2)
       words y m = cleared_back y.extends y.fine.within ∙ rw m
 
-      by : (x : Turn) → uses all limit b ≡ x → Later all b.table x → Counted 0 limit x → (settle u s x).answer ≡ Refused e
+      by : (x : Turn) → uses all limit b ≡ x → Later all b.table x → Counted 0 limit x → (settle u s x).answer ≡ not_applied e
           → ((c : Refusal) → Halts all limit b c → ApplyLacks w u s f n limit c (cleared w (u * 2) ((table_of (uses all limit b)).used * 2)) (zeros s))
           → ApplyLacks w u s f n limit e (settle u s x).table (settle u s x).stack
       by (more z) r y c p k =
@@ -134,12 +134,12 @@ module _ (w : List ℕ) (u : ℕ) (s : List ℕ) (f n limit : ℕ) where
           rw p (by (uses all limit b) refl (uses_later limit (good_begin i h l)) (uses_steps all limit b) (rw p at q)
           (λ c. halts (enters i) h l))
 
-  lacks_answer : {e : Refusal} {x y : List ℕ} → ApplyLacks w u s f n limit e x y → (apply w u s f n limit).answer ≡ Refused e
+  lacks_answer : {e : Refusal} {x y : List ℕ} → ApplyLacks w u s f n limit e x y → (apply w u s f n limit).answer ≡ not_applied e
   unfolding apply apply_nodes
   lacks_answer (of_entry (early l)) = rw (lacks_entry l)
   lacks_answer (of_entry (not_in_use i h)) = rw i (go (ltb f u) (ltb n u) refl refl)
     where
-      go : (a b : Bool) → ltb f u ≡ a → ltb n u ≡ b → (cond (a && b) (apply_nodes w u s f n limit) (whole (Refused refusal.Node) w s)).answer ≡ Refused refusal.Node
+      go : (a b : Bool) → ltb f u ≡ a → ltb n u ≡ b → (cond (a && b) (apply_nodes w u s f n limit) (whole (not_applied refusal.Node) w s)).answer ≡ not_applied refusal.Node
       go true true p q = absurd (h (ltb-true f u p) (ltb-true n u q))
       go true false p q = refl
       go false b p q = refl
@@ -152,7 +152,7 @@ module _ (w : List ℕ) (u : ℕ) (s : List ℕ) (f n limit : ℕ) where
   lacks_memory (halts i h l a) = rw (halts_clears a) (refl, refl)
 
   -- "Numbers 1 to 6 [..] leave lent memory as found. Numbers 7 to 10 set to 0 the words of the nodes made in the call and the whole stack".
-  pub apply_memory : (e : Refusal) → (apply w u s f n limit).answer ≡ Refused e
+  pub apply_memory : (e : Refusal) → (apply w u s f n limit).answer ≡ not_applied e
       → ((apply w u s f n limit).table ≡ cond (clears e) (cleared w (u * 2) ((table_of (uses (frames s) limit (begin w u f n))).used * 2)) w)
       × ((apply w u s f n limit).stack ≡ cond (clears e) (zeros s) s)
   apply_memory e q = lacks_memory (apply_lacks e q)
@@ -172,7 +172,7 @@ module _ (w : List ℕ) (u : ℕ) (s : List ℕ) (f n limit : ℕ) where
       go (ran i h l p) = rw p (by (uses (frames s) limit (begin w u f n)))
 
   -- on each condition its refusal comes, and leaves lent memory so
-  pub lacks_apply : {e : Refusal} {x y : List ℕ} → ApplyLacks w u s f n limit e x y → apply w u s f n limit ≡ whole (Refused e) x y
+  pub lacks_apply : {e : Refusal} {x y : List ℕ} → ApplyLacks w u s f n limit e x y → apply w u s f n limit ≡ whole (not_applied e) x y
   lacks_apply {e} {x} {y} h =
       let q = lacks_answer h in
       let m = lacks_memory h in
@@ -182,11 +182,11 @@ module _ (w : List ℕ) (u : ℕ) (s : List ℕ) (f n limit : ℕ) where
       rw (← i, ← j, ← q, ← no_out) refl
 
   -- Each refusal comes exactly on its condition.
-  pub apply_stops : (e : Refusal) (x y : List ℕ) → (apply w u s f n limit ≡ whole (Refused e) x y) ↔ ApplyLacks w u s f n limit e x y
+  pub apply_stops : (e : Refusal) (x y : List ℕ) → (apply w u s f n limit ≡ whole (not_applied e) x y) ↔ ApplyLacks w u s f n limit e x y
   apply_stops e x y =
-      (λ q. rw (ap (λ (o : Outcome Applied). o.table) q, ap (λ (o : Outcome Applied). o.stack) q) at (apply_lacks e (ap (λ (o : Outcome Applied). o.answer) q)), lacks_apply)
+      (λ q. rw (ap (λ (o : Outcome (Result Applied Refusal)). o.table) q, ap (λ (o : Outcome (Result Applied Refusal)). o.stack) q) at (apply_lacks e (ap (λ (o : Outcome (Result Applied Refusal)). o.answer) q)), lacks_apply)
 
   -- "all 0 on refusal" ([5])
-  pub refused_counts : (e : Refusal) → (apply w u s f n limit).answer ≡ Refused e → applied_uses (apply w u s f n limit).answer ≡ no_uses
+  pub refused_counts : (e : Refusal) → (apply w u s f n limit).answer ≡ not_applied e → applied_uses (apply w u s f n limit).answer ≡ no_uses
   unfolding applied_uses
   refused_counts e q = rw q

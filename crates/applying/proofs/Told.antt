@@ -8,11 +8,10 @@ use Rattle.calculus.specs.Uses.{steps}
 use Rattle.table.specs.Outcome.{Entered, answered, frames, stopped}
 use Rattle.table.specs.declared.Refusal.{Refusal}
 use Rattle.table.specs.declared.Refusal.TheVariants.{Steps}
-use Rattle.applying.specs.declared.Ended.TheVariants.{Stopped}
 use Rattle.applying.specs.Machine.{State, wanted, Turn, more, done, stop, after, uses}
 use Rattle.applying.specs.Apply.{settle, begin, apply_nodes, apply}
 use Rattle.applying.specs.Lacks.{Halts, limit_reached, at_use}
-use Rattle.applying.specs.Ended.{Halted, for_steps, for_lack, ended, apply_ended, applied_of}
+use Rattle.applying.specs.Ended.{Halted, for_steps, for_lack, ended, apply_ended, applied_of, stopped_with}
 use Rattle.applying.proofs.States.{uses_add}
 use Rattle.applying.proofs.Cases.{entered_apply}
 use Rattle.applying.proofs.Stops.{lacks_stop}
@@ -41,7 +40,7 @@ halts_in {all} {limit} {s} {e} (at_use {z} {j} h q l) =
     (z, rw (← d, uses_add all j (suc (limit - j - 1)) s, q, lacks_stop all z l) for_lack)
 
 -- the answer at a stop
-pub halted_ends : (u : ℕ) (s : List ℕ) {x : Turn} {e : Refusal} {z : State} → Halted x e z → (ended u s x).answer ≡ Stopped e (steps z.uses) (wanted z)
+pub halted_ends : (u : ℕ) (s : List ℕ) {x : Turn} {e : Refusal} {z : State} → Halted x e z → (ended u s x).answer ≡ stopped_with e (steps z.uses) (wanted z)
 unfolding ended stopped
 halted_ends u s for_steps = refl
 halted_ends u s for_lack = refl

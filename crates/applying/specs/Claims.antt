@@ -8,9 +8,8 @@ use Rattle.calculus.specs.Rules.{Apply}
 use Rattle.table.specs.Nodes.{Sound, tree_at}
 use Rattle.table.specs.Outcome.{frames, zeros, at_entry}
 use Rattle.table.specs.Claims.{Extends}
-use Rattle.applying.specs.declared.Applied.TheVariants.{Node}
 use Rattle.applying.specs.Machine.{done, uses}
-use Rattle.applying.specs.Apply.{begin, apply}
+use Rattle.applying.specs.Apply.{begin, apply, applied}
 
 -- What a completed application is, that gave node v, j steps and the uses k, and left u' nodes in use: "Each use is one step, counted when taken" (The five
 -- rules); "Their sum is the steps" ([5]), and leaf plus stem is at least the number of nodes made: "[5]'s node sum becomes an upper bound" ([8]); "Success
@@ -33,4 +32,4 @@ pub record Follows (w : List ℕ) (u : ℕ) (s : List ℕ) (f n limit v u' j : �
 
 -- the answer is a node of the tree r after the uses k
 abbrev pub Gives : List ℕ → ℕ → List ℕ → ℕ → ℕ → ℕ → Tree → Uses → Type 0
-Gives w u s f n limit r k = (v : ℕ) × (u' : ℕ) × ((apply w u s f n limit).answer ≡ Node v u' (steps k) k) × (tree_at (apply w u s f n limit).table v ≡ r)
+Gives w u s f n limit r k = (v : ℕ) × (u' : ℕ) × ((apply w u s f n limit).answer ≡ applied v u' (steps k) k) × (tree_at (apply w u s f n limit).table v ≡ r)

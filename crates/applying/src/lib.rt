@@ -26,30 +26,19 @@ pub enum Frame {
     TriageFirst(usize),
 }
 
-// How an application ends: as Apply answers, and for a stop with the steps taken before it and the rule that was wanted ([14]).
+// What Apply gives: the outcome's node, the new count of used nodes, the steps, and the uses of each rule.
 #[derive(Clone, Copy)]
-pub enum Ended {
-    Node {
-        node: usize,
-        used: usize,
-        steps: usize,
-        uses: Uses,
-    },
-    Stopped {
-        refusal: Refusal,
-        steps: usize,
-        rule: Rule,
-    },
+pub struct Applied {
+    pub node: usize,
+    pub used: usize,
+    pub steps: usize,
+    pub uses: Uses,
 }
 
-// Apply's answer: the outcome's node, the new count of used nodes, the steps, and the uses of each rule.
+// How an application stops: the refusal, the steps taken before it and the rule that was wanted ([14]).
 #[derive(Clone, Copy)]
-pub enum Applied {
-    Node {
-        node: usize,
-        used: usize,
-        steps: usize,
-        uses: Uses,
-    },
-    Refused(Refusal),
+pub struct Stopped {
+    pub refusal: Refusal,
+    pub steps: usize,
+    pub rule: Rule,
 }

@@ -3,13 +3,14 @@ use Prim.Native.Nat.{ℕ}
 use mathlib.Core.Path.{◌≡◌, refl, ap, ◌∙◌}
 use mathlib.Core.List.{List, [], ◌∷◌}
 use native.Mathlib.Omega.{arith}
+use Rattle.std.specs.Prelude.{Err, Ok, Result}
 use Rattle.calculus.specs.Tree.{Tree}
 use Rattle.calculus.specs.declared.Uses.{Uses}
 use Rattle.table.specs.Nodes.{Table, Sound, sound}
-use Rattle.table.specs.Refusal.{made_numbers, refused_numbers}
-use Rattle.table.specs.declared.Made.{Made}
-use Rattle.table.specs.declared.Made.TheVariants as made
+use Rattle.table.specs.Refusal.{made_numbers, refused_numbers, made, not_made}
 use Rattle.table.specs.Claims.{Has, Kept, Places}
+use Rattle.table.specs.declared.Refusal.{Refusal}
+use Rattle.table.specs.declared.Made.{Made}
 use Rattle.table.proofs.Words.{sound_same}
 use Rattle.table.proofs.Trees.{kept_refl, kept_trans}
 use Rattle.table.proofs.Making.{stays}
@@ -19,8 +20,8 @@ use Rattle.translation.specs.Translate as translation
 use Rattle.translation.proofs.Translates.{translate_gives, translate_refused}
 use Rattle.applying.specs.Apply as applying
 use Rattle.applying.specs.declared.Applied.{Applied as Answer}
-use Rattle.applying.specs.declared.Applied.TheVariants as applied
 use Rattle.applying.proofs.Follows.{apply_follows, apply_refused}
+use Rattle.applying.specs.Apply.{applied, not_applied}
 use Rattle.calls.specs.Calls.{Call, read, translate, apply, left, left_by}
 
 -- z has all nodes of t as they were, and is sound where t is
@@ -52,17 +53,17 @@ refused_goes : {t : Table} {w : List ℕ} → Kept t (record { words = w; used =
 refused_goes k = record { kept = k; sound_too = kept_sound k refl }
 
 -- what a call leaves where its answer is known
-pub left_read : (s l : List ℕ) (t : Table) {v u : ℕ} → (ternary.read t.words t.used s l).answer ≡ made.Node v u
+pub left_read : (s l : List ℕ) (t : Table) {v u : ℕ} → (ternary.read t.words t.used s l).answer ≡ made v u
     → left (read s l) t ≡ record { words = (ternary.read t.words t.used s l).table; used = u }
 unfolding left made_numbers
 left_read s l t e = rw e
 
-pub left_translate : (s b : List ℕ) (t : Table) {v u : ℕ} → (translation.translate t.words t.used s b).answer ≡ made.Node v u
+pub left_translate : (s b : List ℕ) (t : Table) {v u : ℕ} → (translation.translate t.words t.used s b).answer ≡ made v u
     → left (translate s b) t ≡ record { words = (translation.translate t.words t.used s b).table; used = u }
 unfolding left made_numbers
 left_translate s b t e = rw e
 
-pub left_apply : (s : List ℕ) (f n limit : ℕ) (t : Table) {v u j : ℕ} {i : Uses} → (applying.apply t.words t.used s f n limit).answer ≡ applied.Node v u j i
+pub left_apply : (s : List ℕ) (f n limit : ℕ) (t : Table) {v u j : ℕ} {i : Uses} → (applying.apply t.words t.used s f n limit).answer ≡ applied v u j i
     → left (apply s f n limit) t ≡ record { words = (applying.apply t.words t.used s f n limit).table; used = u }
 unfolding left applying.applied_numbers
 left_apply s f n limit t e = rw e
@@ -72,22 +73,22 @@ pub left_goes : (c : Call) (t : Table) → Goes t (left c t)
 unfolding left made_numbers applying.applied_numbers refused_numbers
 left_goes (read s l) t = go (ternary.read t.words t.used s l).answer refl
   where
-    go : (a : Made) → (ternary.read t.words t.used s l).answer ≡ a → Goes t (record { words = (ternary.read t.words t.used s l).table; used = (made_numbers t.used a).used })
-    go (made.Node v u) e = placed_goes (read_gives t.words t.used s l v u e).places
-    go (made.Refused r) e = refused_goes (read_refused t.words t.used s l r e)
+    go : (a : (Result Made Refusal)) → (ternary.read t.words t.used s l).answer ≡ a → Goes t (record { words = (ternary.read t.words t.used s l).table; used = (made_numbers t.used a).used })
+    go (Ok m) e = placed_goes (read_gives t.words t.used s l m.node m.used e).places
+    go (Err r) e = refused_goes (read_refused t.words t.used s l r e)
 left_goes (translate s b) t = go (translation.translate t.words t.used s b).answer refl
   where
-    go : (a : Made) → (translation.translate t.words t.used s b).answer ≡ a → Goes t (record { words = (translation.translate t.words t.used s b).table; used = (made_numbers t.used a).used })
-    go (made.Node v u) e = placed_goes (translate_gives t.words t.used s b v u e).lays.places
-    go (made.Refused r) e = refused_goes (translate_refused t.words t.used s b r e)
+    go : (a : (Result Made Refusal)) → (translation.translate t.words t.used s b).answer ≡ a → Goes t (record { words = (translation.translate t.words t.used s b).table; used = (made_numbers t.used a).used })
+    go (Ok m) e = placed_goes (translate_gives t.words t.used s b m.node m.used e).lays.places
+    go (Err r) e = refused_goes (translate_refused t.words t.used s b r e)
 left_goes (apply s f n limit) t = go (applying.apply t.words t.used s f n limit).answer refl
   where
     go : (a : Answer) → (applying.apply t.words t.used s f n limit).answer ≡ a
         → Goes t (record { words = (applying.apply t.words t.used s f n limit).table; used = (applying.applied_numbers t.used a).used })
-    go (applied.Node v u j i) e =
+    go (Ok m) e =
         let q = apply_follows t.words t.used s f n limit v u j i e in
         record { kept = q.extends.kept; sound_too = λ x. q.fine }
-    go (applied.Refused r) e = refused_goes (apply_refused t.words t.used s f n limit r e)
+    go (Err r) e = refused_goes (apply_refused t.words t.used s f n limit r e)
 
 pub left_by_goes : (cs : List Call) (t : Table) → Goes t (left_by cs t)
 unfolding left_by

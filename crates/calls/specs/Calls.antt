@@ -5,13 +5,12 @@ use Rattle.std.proofs.Math.Option.{some}
 use Rattle.calculus.specs.Tree.{Tree}
 use Rattle.calculus.specs.declared.Uses.{Uses}
 use Rattle.table.specs.Nodes.{Table, tree_at}
-use Rattle.table.specs.Refusal.{made_numbers}
-use Rattle.table.specs.declared.Made.TheVariants as made
-use Rattle.applying.specs.declared.Applied.TheVariants as applied
+use Rattle.table.specs.Refusal.{made_numbers, made}
 use Rattle.ternary.specs.Text.{tree_of}
 use Rattle.ternary.specs.Read as ternary
 use Rattle.translation.specs.Translate as translation
 use Rattle.applying.specs.Apply as applying
+use Rattle.applying.specs.Apply.{applied}
 
 -- A call with all that its caller chooses: the stack's words, and the text, the bytes or the two node numbers and the step limit.
 pub data Call : Type 0 where
@@ -53,7 +52,7 @@ pub data Applied (t : Table) : List Call → List Call → ℕ → List Argument
       → Applied t (before ++ (c ∷ [])) cs f args r k
       → Applied t before (c ∷ cs) f args r k
   applies : {before : List Call} {s : List ℕ} {f n limit v u j : ℕ} {i : Uses} {cs : List Call} {args : List Argument} {r : Tree} {k : ℕ}
-      → (applying.apply (left_by before t).words (left_by before t).used s f n limit).answer ≡ applied.Node v u j i
+      → (applying.apply (left_by before t).words (left_by before t).used s f n limit).answer ≡ applied v u j i
       → Applied t (before ++ (apply s f n limit ∷ [])) cs v args r k
       → Applied t before (apply s f n limit ∷ cs) f (record { before = before; node = n } ∷ args) r (j + k)
 
@@ -64,7 +63,7 @@ pub data Completed (t : Table) : List Call → List Call → List ℕ → List A
       → Completed t (before ++ (c ∷ [])) cs b args r k
       → Completed t before (c ∷ cs) b args r k
   translates : {before : List Call} {s b : List ℕ} {v u : ℕ} {cs : List Call} {args : List Argument} {r : Tree} {k : ℕ}
-      → (translation.translate (left_by before t).words (left_by before t).used s b).answer ≡ made.Node v u
+      → (translation.translate (left_by before t).words (left_by before t).used s b).answer ≡ made v u
       → Applied t (before ++ (translate s b ∷ [])) cs v args r k
       → Completed t before (translate s b ∷ cs) b args r k
 
@@ -72,6 +71,6 @@ pub data Completed (t : Table) : List Call → List Call → List ℕ → List A
 pub data Gave : List Call → Table → ℕ → Tree → Type 0 where
   other : {c : Call} {cs : List Call} {t : Table} {v : ℕ} {x : Tree} → Gave cs (left c t) v x → Gave (c ∷ cs) t v x
   reads : {s l : List ℕ} {v u : ℕ} {cs : List Call} {t : Table} {x : Tree}
-      → (ternary.read t.words t.used s l).answer ≡ made.Node v u
+      → (ternary.read t.words t.used s l).answer ≡ made v u
       → tree_of l ≡ some x
       → Gave (read s l ∷ cs) t v x

@@ -12,9 +12,9 @@ use Rattle.table.specs.Nodes.{cleared}
 use Rattle.table.specs.Outcome.{whole, frames, zeros, laid, laid_within}
 use Rattle.table.specs.declared.Refusal.{Refusal}
 use Rattle.table.specs.declared.Refusal.TheVariants.{Frames}
-use Rattle.table.specs.declared.Made.TheVariants as made
 use Rattle.table.proofs.Words.{zero_one, cleared_all}
 use Rattle.table.proofs.Laid.{frames_refused, room_laid}
+use Rattle.table.specs.Refusal.{not_made}
 use Rattle.checks.specs.declared.Checked.{Checked}
 use Rattle.checks.specs.declared.Checked.TheVariants.{Passed, Refused}
 use Rattle.checks.specs.Code as code
@@ -61,7 +61,7 @@ module _ (s : List ℕ) (held : ℕ) where
 
     -- what the check says of a tree that is to be laid out in a table
     module _ (w : List ℕ) (u : ℕ) (x : Tree) where
-      pub refused_within : {c : Refusal} → r ≡ Refused c → whole (made.Refused c) w z ≡ laid_within w u s held x
+      pub refused_within : {c : Refusal} → r ≡ Refused c → whole (not_made c) w z ≡ laid_within w u s held x
       refused_within q =
           let f = no_room q in
           rw (f.is_frames, f.cleared_all) (frames_refused w u s held x f.few)

@@ -10,6 +10,7 @@ use lib.ListN.{length, take}
 use lib.Seq.{take-append_seam}
 use lib.Dec.{leb}
 use borrow.Author.Tests.{leb-true, leb-false, le-leb, lt-leb}
+use Rattle.std.specs.Prelude.{Err, Ok}
 use Rattle.calculus.specs.Term.{Term}
 use Rattle.calculus.specs.Bytes.{bytes, rule, IsRule}
 use Rattle.calculus.specs.Abstraction.{rule_tree}
@@ -23,10 +24,8 @@ use Rattle.translation.proofs.Translates.{translate_gives}
 use Rattle.grammar.specs.Expression.{Expression}
 use Rattle.grammar.specs.Meaning.{term_of}
 use Rattle.grammar.specs.Text.{IsText, read_text}
-use Rattle.grammar.specs.Outcome.{refused_text, given_bytes, Gives, no_reading, no_rule, no_room, fits, of_bytes, of_reading, rule_text}
+use Rattle.grammar.specs.Outcome.{refused_text, given_bytes, Gives, no_reading, no_rule, no_room, fits, of_bytes, of_reading, rule_text, Encoded}
 use Rattle.grammar.specs.Claims.{Encodes}
-use Rattle.grammar.specs.declared.Encoded.{Encoded}
-use Rattle.grammar.specs.declared.Encoded.TheVariants.{Bytes, Refused}
 use Rattle.grammar.proofs.Text.{text_exact, text_unique}
 
 some_one : {t u : Term} → ◌≡◌ {A = Option Term} (some t) (some u) → t ≡ u
@@ -47,7 +46,7 @@ bytes_no_rule e n = go (rule (bytes (term_of e))) refl
     go (some t) q = absurd (n (its_rule e t q))
 
 module _ (text out : List ℕ) where
-  given_room : (e : Expression) → IsText text e → IsRule (bytes (term_of e)) (term_of e) → Gives text out (into_out Bytes Refused (bytes (term_of e)) out)
+  given_room : (e : Expression) → IsText text e → IsRule (bytes (term_of e)) (term_of e) → Gives text out (into_out Ok Err (bytes (term_of e)) out)
   unfolding into_out
   given_room e h r = go (leb (length (bytes (term_of e))) (length out)) refl
     where
@@ -89,7 +88,7 @@ module _ (text out : List ℕ) where
   outcome_exact o = (λ q. subst (Gives text out) q gives, is_given o)
 
   -- what n bytes given are
-  pub given_bytes_lem : (n : ℕ) → (rule_text text out).answer ≡ Bytes n → Encodes text out n
+  pub given_bytes_lem : (n : ℕ) → (rule_text text out).answer ≡ Ok n → Encodes text out n
   given_bytes_lem n q = go gives
     where
       go : Gives text out (rule_text text out) → Encodes text out n
@@ -119,7 +118,7 @@ module _ (text out : List ℕ) where
   -- "it is accepted exactly when the grammar, written without the parser, allows it and the term is a rule of document 01", where out has room for
   -- any rule
   pub accepted_exact : 4096 ≤ length out
-      → ((n : ℕ) × ((rule_text text out).answer ≡ Bytes n)) ↔ ((e : Expression) × (IsText text e × IsRule (bytes (term_of e)) (term_of e)))
+      → ((n : ℕ) × ((rule_text text out).answer ≡ Ok n)) ↔ ((e : Expression) × (IsText text e × IsRule (bytes (term_of e)) (term_of e)))
   accepted_exact l = (
     λ p. let g = given_bytes_lem p.0 p.1 in (g.reading, (g.is_text, g.is_rule)),
     λ p.

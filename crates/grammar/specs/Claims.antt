@@ -4,7 +4,7 @@ use Rattle.std.proofs.Math.Option.{some}
 use Rattle.calculus.specs.Bytes.{bytes, rule, IsRule}
 use Rattle.calculus.specs.Abstraction.{rule_tree}
 use Rattle.table.specs.Claims.{Lays}
-use Rattle.table.specs.declared.Made.TheVariants.{Node}
+use Rattle.table.specs.Refusal.{made}
 use Rattle.translation.specs.Translate.{translate}
 use Rattle.grammar.specs.Expression.{Expression}
 use Rattle.grammar.specs.Meaning.{term_of}
@@ -22,5 +22,5 @@ pub record Encodes (text out : List ℕ) (n : ℕ) : Type 0 where
   pub counted : n ≡ length (bytes (term_of reading))
   pub bytes_are : take n (rule_text text out).out ≡ bytes (term_of reading)
   pub taken : rule (take n (rule_text text out).out) ≡ some (term_of reading)
-  pub translated : (w : List ℕ) (u : ℕ) (s : List ℕ) (v u' : ℕ) → (translate w u s (take n (rule_text text out).out)).answer ≡ Node v u'
+  pub translated : (w : List ℕ) (u : ℕ) (s : List ℕ) (v u' : ℕ) → (translate w u s (take n (rule_text text out).out)).answer ≡ made v u'
       → Lays w u (rule_tree (term_of reading)) (translate w u s (take n (rule_text text out).out)) v u'

@@ -1,12 +1,3 @@
 // Rule text with operators ([3] of document 02) as definitions, in specs/, and its theorems, in proofs/. The code is in the crates `lexer`,
 // `operators`, `parser`, `symbols`, `encoder`, `text_reader` and `rule_reader`.
 #![tactic(auto)]
-
-use table::Refusal;
-
-// The answer of reading a rule text: how many bytes of a term were written.
-#[derive(Clone, Copy)]
-pub enum Encoded {
-    Bytes(usize),
-    Refused(Refusal),
-}

@@ -9,9 +9,9 @@ use Rattle.table.specs.Nodes.{Placed, got, full, capacity, first, second, broken
 use Rattle.table.specs.Outcome.{whole, placed, stopped, settled}
 use Rattle.table.specs.Claims.{Unbroken}
 use Rattle.table.specs.declared.Refusal.TheVariants.{Nodes}
-use Rattle.table.specs.declared.Made.TheVariants as made
 use Rattle.table.proofs.Words.{sound_more, wrote, wrote_other, wrote_first, wrote_second, length_wrote, cleared_all}
 use Rattle.table.proofs.Making.{make_found, make_new, make_full, make_places}
+use Rattle.table.specs.Refusal.{made, not_made}
 use Rattle.nodes.specs.Code.{placed_by}
 use Rattle.nodes.specs.declared.NewNode.{NewNode}
 use Rattle.index.specs.Index.{Ready}
@@ -84,10 +84,10 @@ got_found w u s ix a b n r x t e = (sym (make_found (record { words = w; used = 
 
 -- what is settled
 module _ (w : List ℕ) (u : ℕ) (f z : List ℕ) (c : z ≡ cleared f 0 (length f)) {g : Got} where
-  pub settled_node : (n v : ℕ) → g ≡ Node n v → whole (made.Node n v) w z ≡ settled u f (got_by g w)
+  pub settled_node : (n v : ℕ) → g ≡ Node n v → whole (made n v) w z ≡ settled u f (got_by g w)
   unfolding settled placed got_by
   settled_node n v e = rw (e, c, cleared_all f)
 
-  pub settled_full : {y : List ℕ} → y ≡ cleared w (u * 2) (length w / 2 * 2) → g ≡ Full → whole (made.Refused Nodes) y z ≡ settled u f (got_by g w)
+  pub settled_full : {y : List ℕ} → y ≡ cleared w (u * 2) (length w / 2 * 2) → g ≡ Full → whole (not_made Nodes) y z ≡ settled u f (got_by g w)
   unfolding settled stopped got_by
   settled_full d e = rw (e, c, d, cleared_all f)

@@ -4,11 +4,13 @@ use mathlib.Core.Path.{◌≡◌, refl, sym, ap, ◌∙◌, subst}
 use mathlib.Core.List.{List}
 use native.Mathlib.Omega.{arith}
 use lib.ListN.{length, get_or, replicate, length-replicate}
+use Rattle.std.specs.Prelude.{Result}
 use Rattle.table.specs.Nodes.{Making, got, full, capacity, sound}
 use Rattle.table.specs.Outcome.{Outcome, whole, placed, stopped, settled}
 use Rattle.table.specs.declared.Refusal.TheVariants.{Nodes}
+use Rattle.table.specs.Refusal.{made, not_made}
+use Rattle.table.specs.declared.Refusal.{Refusal}
 use Rattle.table.specs.declared.Made.{Made}
-use Rattle.table.specs.declared.Made.TheVariants as made
 use Rattle.index.specs.Index.{Ready, Empty}
 use Rattle.index.specs.Code.{got_by, ReadyGot, ReadyMade}
 use Rattle.index.specs.declared.Got.{Got}
@@ -50,17 +52,17 @@ module _ {r : Got} {w : List ℕ} where
   unfolding ReadyGot
   node_ready {s} {ix} x q = subst (λ (y : Got). ReadyGot y w s ix) q x
 
-pub made_ready : {r : Made} {w : List ℕ} {s : ℕ} {ix : List ℕ} → ReadyMade r w s ix → {n u : ℕ} → r ≡ made.Node n u → Ready w u s ix
+pub made_ready : {r : (Result Made Refusal)} {w : List ℕ} {s : ℕ} {ix : List ℕ} → ReadyMade r w s ix → {n u : ℕ} → r ≡ made n u → Ready w u s ix
 unfolding ReadyMade
-made_ready {r} {w} {s} {ix} x q = subst (λ (y : Made). ReadyMade y w s ix) q x
+made_ready {r} {w} {s} {ix} x q = subst (λ (y : (Result Made Refusal)). ReadyMade y w s ix) q x
 
 -- an answer that is settled leaves the table ready
-pub settled_ready : (g : Got) (w f : List ℕ) (u s : ℕ) (ix : List ℕ) {r : Made} {z t : List ℕ} → whole r z t ≡ settled u f (got_by g w) → ReadyGot g w s ix → ReadyMade r z s ix
+pub settled_ready : (g : Got) (w f : List ℕ) (u s : ℕ) (ix : List ℕ) {r : (Result Made Refusal)} {z t : List ℕ} → whole r z t ≡ settled u f (got_by g w) → ReadyGot g w s ix → ReadyMade r z s ix
 unfolding settled placed stopped got_by ReadyGot ReadyMade
 settled_ready (Node n v) w f u s ix {r} {z} e x =
-    let p : r ≡ made.Node n v = ap (λ (o : Outcome Made). o.answer) e in
-    let q : z ≡ w = ap (λ (o : Outcome Made). o.table) e in
+    let p : r ≡ made n v = ap (λ (o : Outcome (Result Made Refusal)). o.answer) e in
+    let q : z ≡ w = ap (λ (o : Outcome (Result Made Refusal)). o.table) e in
     rw (p, q) x
 settled_ready Full w f u s ix {r} {z} e x =
-    let p : r ≡ made.Refused Nodes = ap (λ (o : Outcome Made). o.answer) e in
+    let p : r ≡ not_made Nodes = ap (λ (o : Outcome (Result Made Refusal)). o.answer) e in
     rw p tt

@@ -1,9 +1,10 @@
 -- What the code's own values say in terms of the definitions. Assumes nothing: these are definitions.
-use Rattle.std.specs.Prelude.{ℕ, ◌≡◌, List}
+use Rattle.std.specs.Prelude.{ℕ, ◌≡◌, List, Err, Ok, Result}
 use Rattle.std.proofs.Math.Option.{none, some}
 use Rattle.table.specs.Nodes.{Making, got, full, capacity, find}
+use Rattle.table.specs.Refusal.{made, not_made}
+use Rattle.table.specs.declared.Refusal.{Refusal}
 use Rattle.table.specs.declared.Made.{Made}
-use Rattle.table.specs.declared.Made.TheVariants as made
 use Rattle.index.specs.Index.{Ready, Vacant}
 use Rattle.index.specs.declared.Found.{Found}
 use Rattle.index.specs.declared.Found.TheVariants
@@ -25,6 +26,6 @@ unfoldable pub ReadyGot : Got → List ℕ → ℕ → List ℕ → Type 0
 ReadyGot (gets.Node n u) w s ix = Ready w u s ix
 ReadyGot gets.Full w s ix = Unit {0}
 
-unfoldable pub ReadyMade : Made → List ℕ → ℕ → List ℕ → Type 0
-ReadyMade (made.Node n u) w s ix = Ready w u s ix
-ReadyMade (made.Refused e) w s ix = Unit {0}
+unfoldable pub ReadyMade : (Result Made Refusal) → List ℕ → ℕ → List ℕ → Type 0
+ReadyMade (Ok m) w s ix = Ready w m.used s ix
+ReadyMade (Err e) w s ix = Unit {0}

@@ -8,20 +8,21 @@ use mathlib.Core.Option.{Option, none, some}
 use native.Mathlib.Omega.{arith}
 use lib.Dec.{ltb}
 use borrow.Author.Tests.{lt-ltb, ltb-true}
+use Rattle.std.specs.Prelude.{Err, Result}
 use Rattle.calculus.specs.Tree.{Tree}
 use Rattle.table.specs.Nodes.{Table, Placed, Making, got, full, capacity, Sound, tree_at, make, and_then}
 use Rattle.table.specs.Outcome.{Outcome, Entered, whole, placed, settled, at_entry, unless}
 use Rattle.table.specs.declared.Refusal.{Refusal}
 use Rattle.table.specs.declared.Refusal.TheVariants as refusal
-use Rattle.table.specs.declared.Made.{Made}
-use Rattle.table.specs.declared.Made.TheVariants.{Node, Refused}
 use Rattle.table.specs.Claims.{Extends, Has, Places, Filled}
 use Rattle.table.proofs.Words.{zero_one, and_left, and_right}
 use Rattle.table.proofs.Trees.{extends_refl, extends_trans}
 use Rattle.table.proofs.Making.{has, stays, leaf_of, stem_of, fork_of, make_most, make_full, full_case}
 use Rattle.table.proofs.Once.{first_leaf}
 use Rattle.table.proofs.Entry.{entered, enters, entry_lacks}
-use Rattle.table.proofs.Laid.{full_outcome}
+use Rattle.table.proofs.Laid.{full_outcome, made_is}
+use Rattle.table.specs.Refusal.{made, not_made}
+use Rattle.table.specs.declared.Made.{Made}
 use Rattle.labelled.specs.Label.{labelled, nodes, label_rule, label}
 use Rattle.labelled.specs.Claims.{LabelWants, LabelLacking, LabelLacks, of_entry, not_in_use, no_nodes, Labels}
 use Rattle.labelled.specs.Claims.LabelWants.{the_leaf, its_stem, their_fork, stem_of_rule, fork_of_rule, fork_of_label, stem_of_label, the_whole}
@@ -153,8 +154,8 @@ module _ {t : Table} (s : Sound t) (f l : ℕ) (hf : f < t.used) (hl : l < t.use
       go (one_lacks h m k) = k
 
 -- the two kinds of Label's outcome o
-pub data Case (w : List ℕ) (u f t : ℕ) (o : Outcome Made) : Type 0 where
-  refuses : {e : Refusal} {x : List ℕ} → LabelLacks w u f t e x → o ≡ whole (Refused e) x [] → Case w u f t o
+pub data Case (w : List ℕ) (u f t : ℕ) (o : Outcome (Result Made Refusal)) : Type 0 where
+  refuses : {e : Refusal} {x : List ℕ} → LabelLacks w u f t e x → o ≡ whole (not_made e) x [] → Case w u f t o
   gives : at_entry true w u [] ≡ none → f < u → t < u → {m : Placed} → nodes (record { words = w; used = u }) f t ≡ got m → o ≡ placed m [] → Case w u f t o
 
 module _ (w : List ℕ) (u f t : ℕ) where
@@ -169,14 +170,14 @@ module _ (w : List ℕ) (u f t : ℕ) where
           refuses (no_nodes p h k ((nodes_full s f t h k z).0 e)) (full_outcome w u [] (nodes_fill s f t h k e))
 
       go : (a : Option Refusal) (b : Bool) → at_entry true w u [] ≡ a → (ltb f u && ltb t u) ≡ b
-          → Case w u f t (unless a (λ e. whole (Refused e) w []) (cond b (settled u [] (nodes (record { words = w; used = u }) f t)) (whole (Refused refusal.Node) w [])))
+          → Case w u f t (unless a (λ e. whole (Err e) w []) (cond b (settled u [] (nodes (record { words = w; used = u }) f t)) (whole (not_made refusal.Node) w [])))
       go (some e) b p q = refuses (of_entry (entry_lacks true w u [] p)) refl
       go none false p q = refuses (not_in_use p (λ h k. zero_one (cc (lt-ltb f u h, lt-ltb t u k)))) refl
       go none true p q =
           at p (ltb-true f u (and_left (ltb f u) (ltb t u) q)) (ltb-true t u (and_right (ltb f u) (ltb t u) q)) (nodes (record { words = w; used = u }) f t) refl
 
   -- where Label gives a node, it has the labelled tree
-  pub label_gives : (v u' : ℕ) → (label w u f t).answer ≡ Node v u' → Labels w u f t v u'
+  pub label_gives : (v u' : ℕ) → (label w u f t).answer ≡ made v u' → Labels w u f t v u'
   unfolding placed
   label_gives v u' q = go label_case
     where
@@ -194,8 +195,9 @@ module _ (w : List ℕ) (u f t : ℕ) where
       go (refuses k r) = zero_one (cc)
       go (gives p h k {m} e r) =
           let n = nodes_place (entered true w u [] p).table f t h k e in
-          let a : m.node ≡ v = cc in
-          let b : m.table.used ≡ u' = cc in
+          let y : made m.node m.table.used ≡ made v u' = cc in
+          let a : m.node ≡ v = (made_is y).0 in
+          let b : m.table.used ≡ u' = (made_is y).1 in
           let c : m.table.words ≡ (label w u f t).table = cc in
           record {
             entered = p;

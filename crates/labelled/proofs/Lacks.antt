@@ -6,22 +6,23 @@ use mathlib.Core.List.{List, []}
 use mathlib.Core.Logic.{◌↔◌}
 use lib.Dec.{ltb}
 use borrow.Author.Tests.{ltb-true}
+use Rattle.std.specs.Prelude.{Result}
 use Rattle.table.specs.Outcome.{Outcome, whole, placed, settled}
 use Rattle.table.specs.declared.Refusal.{Refusal}
-use Rattle.table.specs.declared.Made.{Made}
-use Rattle.table.specs.declared.Made.TheVariants.{Refused}
 use Rattle.table.specs.Claims.{Kept}
 use Rattle.table.proofs.Words.{zero_one, and_left, and_right}
 use Rattle.table.proofs.Trees.{kept_refl}
 use Rattle.table.proofs.Entry.{entered, lacks_entry, full_kept}
 use Rattle.table.proofs.Laid.{full_outcome}
+use Rattle.table.specs.Refusal.{not_made}
+use Rattle.table.specs.declared.Made.{Made}
 use Rattle.labelled.specs.Label.{label_rule, label}
 use Rattle.labelled.specs.Claims.{LabelLacks, of_entry, not_in_use, no_nodes}
 use Rattle.labelled.proofs.Labels.{Case, refuses, gives, label_case, nodes_full, nodes_fill, entered_label}
 
 module _ (w : List ℕ) (u f t : ℕ) (e : Refusal) where
   -- "1, 2, then 3 for either number.", then 8 while making nodes: each comes only on its condition, and leaves the table so.
-  pub label_lacks : (label w u f t).answer ≡ Refused e → LabelLacks w u f t e (label w u f t).table
+  pub label_lacks : (label w u f t).answer ≡ not_made e → LabelLacks w u f t e (label w u f t).table
   unfolding placed
   label_lacks q = go (label_case w u f t)
     where
@@ -33,7 +34,7 @@ module _ (w : List ℕ) (u f t : ℕ) (e : Refusal) where
       go (gives p h k m r) = zero_one (cc)
 
   -- all nodes are as they were
-  pub label_refused : (label w u f t).answer ≡ Refused e → Kept (record { words = w; used = u }) (record { words = (label w u f t).table; used = u })
+  pub label_refused : (label w u f t).answer ≡ not_made e → Kept (record { words = w; used = u }) (record { words = (label w u f t).table; used = u })
   label_refused q = go (label_lacks q)
     where
       go : {c : Refusal} {x : List ℕ} → LabelLacks w u f t c x → Kept (record { words = w; used = u }) (record { words = x; used = u })
@@ -49,7 +50,7 @@ not_both u f t n = go (ltb f u && ltb t u) refl
     go true q = absurd (n (ltb-true f u (and_left (ltb f u) (ltb t u) q)) (ltb-true t u (and_right (ltb f u) (ltb t u) q)))
     go false q = refl
 
-stops : {w : List ℕ} {u f t : ℕ} {e : Refusal} {x : List ℕ} → LabelLacks w u f t e x → label w u f t ≡ whole (Refused e) x []
+stops : {w : List ℕ} {u f t : ℕ} {e : Refusal} {x : List ℕ} → LabelLacks w u f t e x → label w u f t ≡ whole (not_made e) x []
 unfolding label label_rule settled
 stops (of_entry h) = rw (lacks_entry h)
 stops {u = u} {f = f} {t = t} (not_in_use h k) = rw (h, not_both u f t k)
@@ -59,5 +60,5 @@ stops {w} {u} {f} {t} (no_nodes h k l {z} m) =
     sym (entered_label n k l) ∙ rw q (full_outcome w u [] (nodes_fill n.table f t k l q))
 
 -- Each refusal comes exactly on its condition.
-pub label_stops : (w : List ℕ) (u f t : ℕ) (e : Refusal) (x : List ℕ) → (label w u f t ≡ whole (Refused e) x []) ↔ LabelLacks w u f t e x
-label_stops w u f t e x = (λ q. rw (ap (λ (o : Outcome Made). o.table) q) at (label_lacks w u f t e (ap (λ (o : Outcome Made). o.answer) q)), stops)
+pub label_stops : (w : List ℕ) (u f t : ℕ) (e : Refusal) (x : List ℕ) → (label w u f t ≡ whole (not_made e) x []) ↔ LabelLacks w u f t e x
+label_stops w u f t e x = (λ q. rw (ap (λ (o : Outcome (Result Made Refusal)). o.table) q) at (label_lacks w u f t e (ap (λ (o : Outcome (Result Made Refusal)). o.answer) q)), stops)

@@ -1,6 +1,6 @@
 -- Where `unlabel` gives nodes and which, and where it is refused, each exactly. Assumes nothing.
 use Prim.Native.Nat.{ℕ, ◌<◌}
-use mathlib.Core.Path.{◌≡◌, refl, subst}
+use mathlib.Core.Path.{◌≡◌, refl, ap, subst}
 use mathlib.Core.Bool.{Bool, true, false, cond}
 use mathlib.Core.List.{List, []}
 use mathlib.Core.Logic.{◌↔◌}
@@ -17,11 +17,11 @@ use Rattle.table.specs.declared.Refusal.TheVariants.{Node, Label}
 use Rattle.table.proofs.Words.{zero_one}
 use Rattle.table.proofs.Branches.{branch_of, branches_of}
 use Rattle.table.proofs.Entry.{entered, entry_lacks, lacks_entry}
+use Rattle.table.proofs.Laid.{same_ok}
+use Rattle.labelled.specs.declared.Parts.{Parts}
 use Rattle.labelled.specs.Label.{labelled}
-use Rattle.labelled.specs.Unlabel.{is_labelled, label_node, rule_node, unlabel_node, unlabel}
+use Rattle.labelled.specs.Unlabel.{is_labelled, label_node, rule_node, unlabel_node, unlabel, Unlabelled, no_parts, parts}
 use Rattle.labelled.specs.UnlabelClaims.{IsLabelled, Found, Given, Unlabels, TakenApart, UnlabelLacks, of_entry, not_in_use, not_labelled, labelled_earlier, IsKOf}
-use Rattle.labelled.specs.declared.Unlabelled.{Unlabelled}
-use Rattle.labelled.specs.declared.Unlabelled.TheVariants.{Parts, Refused}
 use Rattle.labelled.proofs.Forms.{is_labelled_exact, not_labelled_fails, earlier_exact}
 
 -- the nodes of rule and label in the labelled tree of a node in use
@@ -52,8 +52,8 @@ holds {w} {v} f t i e =
 
 -- the answer, case by case
 data Case (w : List ℕ) (u v : ℕ) : Unlabelled → Type 0 where
-  refuses : {e : Refusal} → UnlabelLacks w u v e → Case w u v (Refused e)
-  gives : Found w u v → Case w u v (Parts (rule_node w v) (label_node w v))
+  refuses : {e : Refusal} → UnlabelLacks w u v e → Case w u v (no_parts e)
+  gives : Found w u v → Case w u v (parts (rule_node w v) (label_node w v))
 
 module _ (w : List ℕ) (u v : ℕ) where
   by_case : Case w u v (unlabel w u v)
@@ -61,29 +61,29 @@ module _ (w : List ℕ) (u v : ℕ) where
   by_case = go (at_entry true w u []) (ltb v u) (is_labelled (tree_at w v)) refl refl refl
     where
       go : (a : Option Refusal) (b c : Bool) → at_entry true w u [] ≡ a → ltb v u ≡ b → is_labelled (tree_at w v) ≡ c
-          → Case w u v (unless a Refused (cond b (cond c (Parts (rule_node w v) (label_node w v)) (Refused Label)) (Refused Node)))
+          → Case w u v (unless a no_parts (cond b (cond c (parts (rule_node w v) (label_node w v)) (no_parts Label)) (no_parts Node)))
       go (some e) b c p q r = refuses (of_entry (entry_lacks true w u [] p))
       go none false c p q r = refuses (not_in_use p (ltb-false v u q))
       go none true false p q r = refuses (not_labelled p (ltb-true v u q) (λ i. zero_one (cc ((is_labelled_exact (tree_at w v)).1 i))))
       go none true true p q r = gives (record { entered = p; inside = ltb-true v u q; tree = (is_labelled_exact (tree_at w v)).0 r })
 
   -- on each condition its refusal comes
-  stops : {e : Refusal} → UnlabelLacks w u v e → unlabel w u v ≡ Refused e
+  stops : {e : Refusal} → UnlabelLacks w u v e → unlabel w u v ≡ no_parts e
   unfolding unlabel unlabel_node
   stops (of_entry l) = rw (lacks_entry l)
   stops (not_in_use p h) = rw (p, le-ltb v u h)
   stops (not_labelled p h n) = rw (p, lt-ltb v u h, not_labelled_fails (tree_at w v) n)
 
   -- "Checks: 11, the tree isn't of the labelled form, after 3.": 1, 2, 3 and 11, each exactly on its condition, and no other refusal
-  pub unlabel_lacks : (e : Refusal) → (unlabel w u v ≡ Refused e) ↔ UnlabelLacks w u v e
+  pub unlabel_lacks : (e : Refusal) → (unlabel w u v ≡ no_parts e) ↔ UnlabelLacks w u v e
   unlabel_lacks e = (λ q. go by_case q, stops)
     where
-      go : {o : Unlabelled} → Case w u v o → o ≡ Refused e → UnlabelLacks w u v e
+      go : {o : Unlabelled} → Case w u v o → o ≡ no_parts e → UnlabelLacks w u v e
       go (refuses {e = c} l) q = let p : c ≡ e = cc in subst (UnlabelLacks w u v) p l
       go (gives h) q = zero_one (cc)
 
   -- the nodes that are given
-  pub found_parts : Found w u v → unlabel w u v ≡ Parts (rule_node w v) (label_node w v)
+  pub found_parts : Found w u v → unlabel w u v ≡ parts (rule_node w v) (label_node w v)
   unfolding unlabel unlabel_node
   found_parts h = rw (h.entered, lt-ltb v u h.inside, (is_labelled_exact (tree_at w v)).1 h.tree)
 
@@ -91,17 +91,18 @@ module _ (w : List ℕ) (u v : ℕ) where
   pub unlabel_exact : Given w u v ↔ Found w u v
   unlabel_exact = (λ g. go by_case g.answer, λ h. record { rule = rule_node w v; label = label_node w v; answer = found_parts h })
     where
-      go : {o : Unlabelled} {a b : ℕ} → Case w u v o → o ≡ Parts a b → Found w u v
+      go : {o : Unlabelled} {a b : ℕ} → Case w u v o → o ≡ parts a b → Found w u v
       go (refuses l) q = zero_one (cc)
       go (gives h) q = h
 
   -- "gives the nodes of label and rule out of a labelled tree"
-  pub unlabel_gives : {a b : ℕ} → unlabel w u v ≡ Parts a b → Unlabels w u v a b
+  pub unlabel_gives : {a b : ℕ} → unlabel w u v ≡ parts a b → Unlabels w u v a b
   unlabel_gives {a} {b} q =
       let h = unlabel_exact.0 (record { rule = a; label = b; answer = q }) in
       let p = found_parts h in
-      let x : rule_node w v ≡ a = cc in
-      let y : label_node w v ≡ b = cc in
+      let z : parts (rule_node w v) (label_node w v) ≡ parts a b = cc in
+      let x : rule_node w v ≡ a = ap (λ (m : Parts). m.rule) (same_ok z) in
+      let y : label_node w v ≡ b = ap (λ (m : Parts). m.label) (same_ok z) in
       let i : InUse w v = record { used = u; fine = (entered true w u [] h.entered).table; inside = h.inside } in
       let k = holds h.tree.rule h.tree.label i h.tree.form in
       record {
@@ -120,7 +121,7 @@ module _ (w : List ℕ) (u v : ℕ) where
         record { rule = _; label = _; answer = a; rule_tree_lem = o.0; label_tree = o.1 }
 
     -- "trees labelled earlier" ([4]): 11 comes for such a tree exactly where its label is not itself a K of something.
-    pub unlabel_earlier : (f t : Tree) → tree_at w v ≡ labelled_earlier f t → (unlabel w u v ≡ Refused Label) ↔ (IsKOf t → ⊥)
+    pub unlabel_earlier : (f t : Tree) → tree_at w v ≡ labelled_earlier f t → (unlabel w u v ≡ no_parts Label) ↔ (IsKOf t → ⊥)
     unlabel_earlier f t e =
         (λ q k. go ((unlabel_lacks Label).0 q) (rw e ((earlier_exact f t).1 k)), λ n. stops (not_labelled p h (λ i. n ((earlier_exact f t).0 (rw e at i)))))
       where

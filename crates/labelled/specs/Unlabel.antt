@@ -1,14 +1,14 @@
 -- Which trees are of the labelled form, and the nodes of rule and label out of such a tree (document 02, [1] and [4]). Assumes nothing: these are
 -- definitions.
-use Rattle.std.specs.Prelude.{ℕ, Bool, true, false, cond, ◌&&◌, List, [], ◌∷◌, ltb}
+use Rattle.std.specs.Prelude.{ℕ, Bool, true, false, cond, ◌&&◌, List, [], ◌∷◌, ltb, Result, Ok, Err}
 use Rattle.calculus.specs.Tree.{Tree, leaf, stem, fork}
 use Rattle.table.specs.Nodes.{tree_at}
 use Rattle.table.specs.Branches.{left, right}
 use Rattle.table.specs.Outcome.{at_entry, unless}
 use Rattle.table.specs.Refusal.{number}
+use Rattle.table.specs.declared.Refusal.{Refusal}
 use Rattle.table.specs.declared.Refusal.TheVariants.{Node, Label}
-use Rattle.labelled.specs.declared.Unlabelled.{Unlabelled}
-use Rattle.labelled.specs.declared.Unlabelled.TheVariants.{Parts, Refused}
+use Rattle.labelled.specs.declared.Parts.{Parts}
 
 -- whether a tree is Δ, a stem, K that is ΔΔ, and KK that is ΔΔ(ΔΔ)
 unfoldable pub is_leaf : Tree → Bool
@@ -68,17 +68,27 @@ label_node w v = label_under w (left w v)
 unfoldable pub rule_node : List ℕ → ℕ → ℕ
 rule_node w v = rule_under w (right w v)
 
+-- the answer of `unlabel`: the nodes of rule and label, or the refusal
+abbrev pub Unlabelled : Type 0
+Unlabelled = Result Parts Refusal
+
+abbrev pub parts : ℕ → ℕ → Unlabelled
+parts rule label = Ok (record { rule = rule; label = label })
+
+abbrev pub no_parts : Refusal → Unlabelled
+no_parts e = Err e
+
 -- "11, the tree isn't of the labelled form": of node v, in use in a table that passed 1 and 2
 unfoldable pub unlabel_node : List ℕ → ℕ → Unlabelled
-unlabel_node w v = cond (is_labelled (tree_at w v)) (Parts (rule_node w v) (label_node w v)) (Refused Label)
+unlabel_node w v = cond (is_labelled (tree_at w v)) (parts (rule_node w v) (label_node w v)) (no_parts Label)
 
 -- "It also takes a node number and gives the nodes of label and rule out of a labelled tree. Checks: 11, the tree isn't of the labelled form, after
 -- 3.": node v of the table w with u nodes in use. 1 and 2 come before 3, as in every operation on a table; there is no stack.
 unfoldable pub unlabel : List ℕ → ℕ → ℕ → Unlabelled
-unlabel w u v = unless (at_entry true w u []) Refused (cond (ltb v u) (unlabel_node w v) (Refused Node))
+unlabel w u v = unless (at_entry true w u []) no_parts (cond (ltb v u) (unlabel_node w v) (no_parts Node))
 
 -- The numbers of the answer, with `used` as at entry: refusal, the rule's node, used, steps, digits, the label's node. "A refusal returns its number,
 -- used as at entry, and 0 for node number, steps and digits." (document 01, Operations)
 unfoldable pub unlabelled_numbers : ℕ → Unlabelled → List ℕ
-unlabelled_numbers used (Parts rule label) = 0 ∷ rule ∷ used ∷ 0 ∷ 0 ∷ label ∷ []
-unlabelled_numbers used (Refused e) = number e ∷ 0 ∷ used ∷ 0 ∷ 0 ∷ 0 ∷ []
+unlabelled_numbers used (Ok m) = 0 ∷ m.rule ∷ used ∷ 0 ∷ 0 ∷ m.label ∷ []
+unlabelled_numbers used (Err e) = number e ∷ 0 ∷ used ∷ 0 ∷ 0 ∷ 0 ∷ []

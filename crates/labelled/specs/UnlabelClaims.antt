@@ -9,8 +9,7 @@ use Rattle.table.specs.Claims.{EntryLacks}
 use Rattle.table.specs.declared.Refusal.{Refusal}
 use Rattle.table.specs.declared.Refusal.TheVariants.{Node, Label}
 use Rattle.labelled.specs.Label.{labelled}
-use Rattle.labelled.specs.Unlabel.{unlabel}
-use Rattle.labelled.specs.declared.Unlabelled.TheVariants.{Parts}
+use Rattle.labelled.specs.Unlabel.{unlabel, parts}
 
 -- the tree x is the labelled tree of some rule and some label
 pub record IsLabelled (x : Tree) : Type 0 where
@@ -28,7 +27,7 @@ pub record Found (w : List ℕ) (u v : ℕ) : Type 0 where
 pub record Given (w : List ℕ) (u v : ℕ) : Type 0 where
   pub rule : ℕ
   pub label : ℕ
-  pub answer : unlabel w u v ≡ Parts rule label
+  pub answer : unlabel w u v ≡ parts rule label
 
 -- "gives the nodes of label and rule out of a labelled tree" ([1]): the nodes a and b, given for node v, are in use, and theirs are the trees of which
 -- v's is the labelled one; no others are.
@@ -42,7 +41,7 @@ pub record Unlabels (w : List ℕ) (u v a b : ℕ) : Type 0 where
 pub record TakenApart (w : List ℕ) (u v : ℕ) (f t : Tree) : Type 0 where
   pub rule : ℕ
   pub label : ℕ
-  pub answer : unlabel w u v ≡ Parts rule label
+  pub answer : unlabel w u v ≡ parts rule label
   pub rule_tree_lem : tree_at w rule ≡ f
   pub label_tree : tree_at w label ≡ t
 

@@ -5,6 +5,7 @@ use mathlib.Core.Bool.{false}
 use mathlib.Core.List.{List}
 use mathlib.Core.Logic.{◌↔◌, inl, inr}
 use mathlib.Core.Option.{Option, none, some}
+use Rattle.std.specs.Prelude.{Result}
 use Rattle.calculus.specs.Tree.{Tree}
 use Rattle.calculus.specs.Term.{Term}
 use Rattle.calculus.specs.Bytes.{rule}
@@ -21,10 +22,9 @@ use Rattle.ternary.specs.Held.{Spent, no_out, no_frame}
 use Rattle.labelled.specs.Label.{labelled}
 use Rattle.fields.specs.Packet.{Packet, packet, IsPacket, Bytes}
 use Rattle.fields.proofs.Exact.{packet_found, packet_exact}
-use Rattle.running.specs.Run.{texts, ran_numbers}
+use Rattle.running.specs.Run.{texts, ran_numbers, not_ran}
 use Rattle.running.specs.Claims.{Fit, Unreadable, LabelReads, no_label, label_of, Checked, translate_nodes, translate_frames, ReadStops, no_nodes, no_frames, later, TooFew, few_nodes, few_frames, few_bytes}
 use Rattle.running.specs.declared.Ran.{Ran}
-use Rattle.running.specs.declared.Ran.TheVariants.{Refused}
 use Rattle.running.proofs.Checks.{fit_true, not_fit, rule_lacks, texts_lack, nothing_lacks, Checks, checks}
 use Rattle.running.proofs.Checks as found
 use Rattle.labelling.specs.LabelPacket.{label_parts, label_whole, label_packet}
@@ -36,25 +36,25 @@ use Rattle.labelling.proofs.Stages as staged
 
 module _ {w s o : List ℕ} (l : List ℕ) where
   -- 1
-  pub label_long : (Fit w s o → ⊥) → label_packet w s o l ≡ whole_out (Refused Limits) w s o
+  pub label_long : (Fit w s o → ⊥) → label_packet w s o l ≡ whole_out (not_ran Limits) w s o
   unfolding label_packet
   label_long h = rw (not_fit h)
 
   module _ (fit : Fit w s o) where
     -- 6: "a packet without tag 4 is 6 to it"
-    pub label_missing : NoLabel l → label_packet w s o l ≡ whole_out (Refused refusal.Packet) w s o
+    pub label_missing : NoLabel l → label_packet w s o l ≡ whole_out (not_ran refusal.Packet) w s o
     unfolding label_packet label_whole label_parts
     label_missing (inl e) = rw (fit_true fit, e)
     label_missing (inr e) = rw (fit_true fit, e.1, e.2)
 
     -- 5
-    pub label_bad_rule : {p : Packet} → Labelled l p → rule p.rule ≡ none → label_packet w s o l ≡ whole_out (Refused Rule) w s o
+    pub label_bad_rule : {p : Packet} → Labelled l p → rule p.rule ≡ none → label_packet w s o l ≡ whole_out (not_ran Rule) w s o
     unfolding label_packet label_whole label_parts
     label_bad_rule {p} h q = rw (fit_true fit, h.is_packet, h.has_label, ← h.has_label, rule_lacks p q)
 
     -- 4: the arguments' texts, and then the label's
     pub label_bad_text : {p : Packet} → Labelled l p → {t : Term} → rule p.rule ≡ some t → Unreadable (texts p)
-        → label_packet w s o l ≡ whole_out (Refused refusal.Text) w s o
+        → label_packet w s o l ≡ whole_out (not_ran refusal.Text) w s o
     unfolding label_packet label_whole label_parts
     label_bad_text {p} h q u = rw (fit_true fit, h.is_packet, h.has_label, ← h.has_label, texts_lack p q u)
 
@@ -124,16 +124,16 @@ few_clears few_nodes q = zero_one (cc)
 few_clears few_frames q = zero_one (cc)
 few_clears few_bytes q = zero_one (cc)
 
-pub refuses_with : {w s o l : List ℕ} {q : Outcome Ran} {e : Refusal} → LabelRefuses w s o l q e → q.answer ≡ Refused e
-refuses_with (too_long h q) = ap (λ (z : Outcome Ran). z.answer) q
-refuses_with (no_packet f h q) = ap (λ (z : Outcome Ran). z.answer) q
-refuses_with (no_rule f h k q) = ap (λ (z : Outcome Ran). z.answer) q
-refuses_with (no_text f h k u q) = ap (λ (z : Outcome Ran). z.answer) q
-refuses_with (stops c h k q) = ap (λ (z : Outcome Ran). z.answer) q
+pub refuses_with : {w s o l : List ℕ} {q : Outcome (Result Ran Refusal)} {e : Refusal} → LabelRefuses w s o l q e → q.answer ≡ not_ran e
+refuses_with (too_long h q) = ap (λ (z : Outcome (Result Ran Refusal)). z.answer) q
+refuses_with (no_packet f h q) = ap (λ (z : Outcome (Result Ran Refusal)). z.answer) q
+refuses_with (no_rule f h k q) = ap (λ (z : Outcome (Result Ran Refusal)). z.answer) q
+refuses_with (no_text f h k u q) = ap (λ (z : Outcome (Result Ran Refusal)). z.answer) q
+refuses_with (stops c h k q) = ap (λ (z : Outcome (Result Ran Refusal)). z.answer) q
 
 module _ (w s o l : List ℕ) where
   -- Each refusal of `label_packet` comes only on its condition, and leaves lent memory so.
-  pub label_refused : (e : Refusal) → (label_packet w s o l).answer ≡ Refused e → LabelRefuses w s o l (label_packet w s o l) e
+  pub label_refused : (e : Refusal) → (label_packet w s o l).answer ≡ not_ran e → LabelRefuses w s o l (label_packet w s o l) e
   label_refused e q = go (checking w s o l)
     where
       by : {c : Refusal} → LabelRefuses w s o l (label_packet w s o l) c → LabelRefuses w s o l (label_packet w s o l) e
@@ -149,13 +149,13 @@ module _ (w s o l : List ℕ) where
       go (goes_on c) = of_stages c (label_checked c)
 
   -- "A refusal returns its number [..] and 0 for node number, steps and digits." "(on refusal used is 0)" ([1])
-  pub refused_numbers_lem : (e : Refusal) → (label_packet w s o l).answer ≡ Refused e
+  pub refused_numbers_lem : (e : Refusal) → (label_packet w s o l).answer ≡ not_ran e
       → ran_numbers (label_packet w s o l).answer ≡ record { refusal = number e; node = 0; used = 0; steps = 0; digits = 0 }
   unfolding ran_numbers refused_numbers
   refused_numbers_lem e q = rw q
 
   -- the refusals that come, and no other
-  pub label_comes : (e : Refusal) → (label_packet w s o l).answer ≡ Refused e → Comes e
+  pub label_comes : (e : Refusal) → (label_packet w s o l).answer ≡ not_ran e → Comes e
   label_comes e q = go (label_refused e q)
     where
       go : {c : Refusal} → LabelRefuses w s o l (label_packet w s o l) c → Comes c
@@ -166,36 +166,36 @@ module _ (w s o l : List ℕ) where
       go (stops c h k r) = too_few (stops_few h)
 
   -- 1 exactly where a length does not fit
-  pub label_limits : ((label_packet w s o l).answer ≡ Refused Limits) ↔ (Fit w s o → ⊥)
+  pub label_limits : ((label_packet w s o l).answer ≡ not_ran Limits) ↔ (Fit w s o → ⊥)
   unfolding clears number
-  label_limits = (λ q. go (label_refused Limits q), λ h. ap (λ (x : Outcome Ran). x.answer) (label_long l h))
+  label_limits = (λ q. go (label_refused Limits q), λ h. ap (λ (x : Outcome (Result Ran Refusal)). x.answer) (label_long l h))
     where
       go : LabelRefuses w s o l (label_packet w s o l) Limits → Fit w s o → ⊥
       go (too_long h r) = h
       go (stops c h k r) = absurd (few_clears (stops_few h) refl)
 
   -- 6 exactly where the bytes are no packet, or one without tag 4
-  pub label_packet_lem : ((label_packet w s o l).answer ≡ Refused refusal.Packet) ↔ (Fit w s o × NoLabel l)
+  pub label_packet_lem : ((label_packet w s o l).answer ≡ not_ran refusal.Packet) ↔ (Fit w s o × NoLabel l)
   unfolding clears number
-  label_packet_lem = (λ q. go (label_refused refusal.Packet q), λ h. ap (λ (x : Outcome Ran). x.answer) (label_missing l h.0 h.1))
+  label_packet_lem = (λ q. go (label_refused refusal.Packet q), λ h. ap (λ (x : Outcome (Result Ran Refusal)). x.answer) (label_missing l h.0 h.1))
     where
       go : LabelRefuses w s o l (label_packet w s o l) refusal.Packet → Fit w s o × NoLabel l
       go (no_packet f h r) = (f, h)
       go (stops c h k r) = absurd (few_clears (stops_few h) refl)
 
   -- 5 exactly where the packet has a label and its rule's bytes are no rule
-  pub label_rule_lem : ((label_packet w s o l).answer ≡ Refused Rule) ↔ (Fit w s o × (p : Packet) × Labelled l p × (rule p.rule ≡ none))
+  pub label_rule_lem : ((label_packet w s o l).answer ≡ not_ran Rule) ↔ (Fit w s o × (p : Packet) × Labelled l p × (rule p.rule ≡ none))
   unfolding clears number
-  label_rule_lem = (λ q. go (label_refused Rule q), λ h. ap (λ (x : Outcome Ran). x.answer) (label_bad_rule l h.0 h.2 h.3))
+  label_rule_lem = (λ q. go (label_refused Rule q), λ h. ap (λ (x : Outcome (Result Ran Refusal)). x.answer) (label_bad_rule l h.0 h.2 h.3))
     where
       go : LabelRefuses w s o l (label_packet w s o l) Rule → Fit w s o × (p : Packet) × Labelled l p × (rule p.rule ≡ none)
       go (no_rule f {p = p} h k r) = (f, p, h, k)
       go (stops c h k r) = absurd (few_clears (stops_few h) refl)
 
   -- 4 exactly where the packet has a label and a rule, and one of its texts, the label's last, is not whole
-  pub label_text : ((label_packet w s o l).answer ≡ Refused refusal.Text) ↔ (Fit w s o × (p : Packet) × Labelled l p × (t : Term) × (rule p.rule ≡ some t) × Unreadable (texts p))
+  pub label_text : ((label_packet w s o l).answer ≡ not_ran refusal.Text) ↔ (Fit w s o × (p : Packet) × Labelled l p × (t : Term) × (rule p.rule ≡ some t) × Unreadable (texts p))
   unfolding clears number
-  label_text = (λ q. go (label_refused refusal.Text q), λ h. ap (λ (x : Outcome Ran). x.answer) (label_bad_text l h.0 h.2 h.4 h.5))
+  label_text = (λ q. go (label_refused refusal.Text q), λ h. ap (λ (x : Outcome (Result Ran Refusal)). x.answer) (label_bad_text l h.0 h.2 h.4 h.5))
     where
       go : LabelRefuses w s o l (label_packet w s o l) refusal.Text
           → Fit w s o × (p : Packet) × Labelled l p × (t : Term) × (rule p.rule ≡ some t) × Unreadable (texts p)
@@ -207,12 +207,12 @@ pub label_complete : {w s o l : List ℕ} {p : Packet} {t : Term} {v : List ℕ}
 label_complete {w} {s} {o} {l} {t = t} {v = v} {x = x} c = go (label_checked c)
   where
     go : LabelStaged w s o t v x (label_packet w s o l) → Labels w s o l (labelled (rule_tree t) x)
-    go (staged.stops {e = e} h k) = inr (e, stops_few h, ap (λ (z : Outcome Ran). z.answer) k.outcome)
-    go (staged.ends {z = z} h f q) = inl (z.used, ap (λ (z : Outcome Ran). z.answer) q)
+    go (staged.stops {e = e} h k) = inr (e, stops_few h, ap (λ (z : Outcome (Result Ran Refusal)). z.answer) k.outcome)
+    go (staged.ends {z = z} h f q) = inl (z.used, ap (λ (z : Outcome (Result Ran Refusal)). z.answer) q)
 
 -- 6 by what a packet's bytes are and not by a reader of them: it comes exactly where the bytes are no packet with a label.
 pub label_packet_exact : (w s o l : List ℕ) → Bytes l
-    → ((label_packet w s o l).answer ≡ Refused refusal.Packet) ↔ (Fit w s o × ((p : Packet) (v : List ℕ) → IsPacket l p → p.label ≡ some v → ⊥))
+    → ((label_packet w s o l).answer ≡ not_ran refusal.Packet) ↔ (Fit w s o × ((p : Packet) (v : List ℕ) → IsPacket l p → p.label ≡ some v → ⊥))
 label_packet_exact w s o l bytes =
     (λ q. let h = (label_packet_lem w s o l).0 q in (h.0, none_is h.1), λ h. (label_packet_lem w s o l).1 (h.0, missing (packet l) refl h.1))
   where

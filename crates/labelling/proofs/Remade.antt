@@ -8,8 +8,8 @@ use lib.ListN.{take}
 use Rattle.calculus.specs.Abstraction.{rule_tree}
 use Rattle.table.specs.Nodes.{tree_at}
 use Rattle.table.specs.Outcome.{Entered}
-use Rattle.table.specs.declared.Made.TheVariants.{Node}
 use Rattle.table.proofs.Entry.{enters}
+use Rattle.table.specs.Refusal.{made}
 use Rattle.ternary.specs.Read.{read}
 use Rattle.ternary.proofs.OneText.{text_read}
 use Rattle.ternary.proofs.Reading.{read_gives}
@@ -22,7 +22,7 @@ use Rattle.labelling.specs.Claims.{LabelCompletes}
 -- "trees labelled earlier are made again from their packets" ([4]): where Read takes the text that `label_packet` wrote, into whatever table, `unlabel`
 -- gives nodes of the packet's rule and label.
 pub remade : {w s o l : List ℕ} {u n : ℕ} (c : LabelCompletes w s o l u n) (w₂ : List ℕ) (u₂ : ℕ) (s₂ : List ℕ) (v u' : ℕ)
-    → (read w₂ u₂ s₂ (take n (label_packet w s o l).out)).answer ≡ Node v u'
+    → (read w₂ u₂ s₂ (take n (label_packet w s o l).out)).answer ≡ made v u'
     → TakenApart (read w₂ u₂ s₂ (take n (label_packet w s o l).out)).table u' v (rule_tree c.term) c.label
 remade {w} {s} {o} {l} {n = n} c w₂ u₂ s₂ v u' q =
     let t = take n (label_packet w s o l).out in

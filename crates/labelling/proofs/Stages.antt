@@ -6,6 +6,7 @@ use mathlib.Core.List.{List, [], ◌∷◌, ◌++◌}
 use mathlib.Core.Option.{some}
 use native.Mathlib.Omega.{arith}
 use lib.ListN.{length, drop}
+use Rattle.std.specs.Prelude.{Err, Ok, Result}
 use Rattle.calculus.specs.Tree.{Tree, size}
 use Rattle.calculus.specs.Uses.{no_uses}
 use Rattle.calculus.specs.Term.{Term}
@@ -14,13 +15,13 @@ use Rattle.calculus.specs.Abstraction.{rule_tree}
 use Rattle.table.specs.Nodes.{Table, Placed, got, capacity, Sound}
 use Rattle.table.specs.Outcome.{Outcome, Entered, whole, whole_out, zeros}
 use Rattle.table.specs.declared.Refusal.{Refusal}
-use Rattle.table.specs.declared.Made.{Made}
-use Rattle.table.specs.declared.Made.TheVariants as made
 use Rattle.table.specs.Claims.{Extends, Has}
 use Rattle.table.proofs.Words.{zero_one}
 use Rattle.table.proofs.Trees.{extends_trans}
 use Rattle.table.proofs.Making.{stays}
 use Rattle.table.proofs.Entry.{enters, lacks_entry}
+use Rattle.table.specs.Refusal.{made, not_made}
+use Rattle.table.specs.declared.Made.{Made}
 use Rattle.ternary.specs.Text.{text}
 use Rattle.ternary.specs.Read.{read, readable}
 use Rattle.translation.specs.Translate.{translate}
@@ -28,10 +29,9 @@ use Rattle.labelled.specs.Label.{labelled, nodes, label}
 use Rattle.labelled.specs.Claims.{LabelLacks, of_entry, not_in_use, no_nodes, Labels}
 use Rattle.labelled.proofs.Labels.{label_gives}
 use Rattle.labelled.proofs.Lacks.{label_lacks}
-use Rattle.running.specs.Run.{after_made_by, after_made, writes}
+use Rattle.running.specs.Run.{after_made_by, after_made, writes, ran}
 use Rattle.running.specs.Claims.{Fit, TranslateHad, ReadsHad, all_read, and_read}
 use Rattle.running.specs.declared.Ran.{Ran}
-use Rattle.running.specs.declared.Ran.TheVariants.{Text}
 use Rattle.running.proofs.Undone.{Back, back_full}
 use Rattle.running.proofs.OneStage.{Stands, Stopped, stop_here, Translating, translated, not_translated, translating, Reading, read_as, not_read, reading, Writing, written, not_written, writing}
 use Rattle.labelling.specs.LabelPacket.{labels, reads_label, labelling_stages}
@@ -51,10 +51,10 @@ pub record LabelEnds (w s : List ℕ) (t : Term) (v : List ℕ) (z : Table) : Ty
   pub used_most : z.used ≤ size (rule_tree t) + length v + 7
 
 -- the two kinds of the stages' outcome q
-pub data LabelStaged (w s o : List ℕ) (t : Term) (v : List ℕ) (x : Tree) (q : Outcome Ran) : Type 0 where
+pub data LabelStaged (w s o : List ℕ) (t : Term) (v : List ℕ) (x : Tree) (q : Outcome (Result Ran Refusal)) : Type 0 where
   stops : {e : Refusal} {m : ℕ} → LabelStops w s o t v x e m → Stopped w s o m e q → LabelStaged w s o t v x q
   ends : {z : Table} → LabelEnds w s t v z → length (text (labelled (rule_tree t) x)) ≤ length o
-      → q ≡ whole_out (Text 0 z.used (length (text (labelled (rule_tree t) x))) no_uses) z.words (zeros s)
+      → q ≡ whole_out (ran 0 z.used (length (text (labelled (rule_tree t) x))) no_uses) z.words (zeros s)
       (text (labelled (rule_tree t) x) ++ drop (length (text (labelled (rule_tree t) x))) o)
       → LabelStaged w s o t v x q
 
@@ -68,7 +68,7 @@ module _ {w s o : List ℕ} (fit : Fit w s o) (t : Term) (v : List ℕ) (x : Tre
       f : ℕ
       f = p.node
 
-      r : Outcome Made
+      r : Outcome (Result Made Refusal)
       r = label z.words z.used f n
 
       long : capacity z.words ≡ capacity w
@@ -82,8 +82,8 @@ module _ {w s o : List ℕ} (fit : Fit w s o) (t : Term) (v : List ℕ) (x : Tre
       lacked (not_in_use q h) = absurd (h hf.inside hn.inside)
       lacked (no_nodes q h k l) = (in_label had read_all l, rw (← long) (back_full st.fine refl))
 
-      go : (a : Made) → r.answer ≡ a → LabelStaged w s o t v x (after_made z.used o (whole r.answer r.table y) (λ w' u' s' v. writes w' u' s' o v no_uses) a)
-      go (made.Node i u) e = end (writing fit stands root no_uses)
+      go : (a : (Result Made Refusal)) → r.answer ≡ a → LabelStaged w s o t v x (after_made z.used o (whole r.answer r.table y) (λ w' u' s' v. writes w' u' s' o v no_uses) a)
+      go (Ok m) e = end (writing fit stands root no_uses)
         where
           g : Labels z.words z.used f n i u
           g = label_gives z.words z.used f n i u e
@@ -114,7 +114,7 @@ module _ {w s o : List ℕ} (fit : Fit w s o) (t : Term) (v : List ℕ) (x : Tre
             used_most = count;
           }) h q
           end (not_written e h q) = stops (in_write had read_all g.nodes_are h) q
-      go (made.Refused e) q =
+      go (Err e) q =
           let a = lacked (label_lacks z.words z.used f n e q) in
           stops a.0 (stop_here st a.1 y st.stack)
 
@@ -127,7 +127,7 @@ module _ {w s o : List ℕ} (fit : Fit w s o) (t : Term) (v : List ℕ) (x : Tre
       z : Table
       z = p.table
 
-      r : Outcome Made
+      r : Outcome (Result Made Refusal)
       r = read z.words z.used y v
 
       go : Reading w s o z y v x → LabelStaged w s o t v x (after_made z.used o r (λ w' u' s' n. labels w' u' s' o p.node n) r.answer)
@@ -142,7 +142,7 @@ module _ {w s o : List ℕ} (fit : Fit w s o) (t : Term) (v : List ℕ) (x : Tre
   unfolding labelling_stages after_made_by
   label_staged b is_rule is = go (translating fit b t is_rule)
     where
-      r : Outcome Made
+      r : Outcome (Result Made Refusal)
       r = translate w 0 s b
 
       go : Translating w s o b t → LabelStaged w s o t v x (after_made 0 o r (λ w' u' s' f. reads_label w' u' s' o f v) r.answer)

@@ -5,28 +5,29 @@ use mathlib.Core.List.{List, ◌++◌}
 use native.Mathlib.Omega.{arith}
 use lib.ListN.{length, drop}
 use lib.Seq.{take_at}
+use Rattle.std.specs.Prelude.{Result}
 use Rattle.calculus.specs.Tree.{Tree}
 use Rattle.calculus.specs.declared.Uses.{Uses}
 use Rattle.calculus.specs.Uses.{no_uses}
 use Rattle.calculus.specs.Term.{Term}
 use Rattle.calculus.specs.Abstraction.{rule_tree}
 use Rattle.table.specs.Outcome.{Outcome}
+use Rattle.table.specs.declared.Refusal.{Refusal}
 use Rattle.table.proofs.Words.{zero_one}
 use Rattle.ternary.specs.Text.{text}
 use Rattle.ternary.proofs.OneText.{text_read}
 use Rattle.ternary.proofs.Reading.{readable_some, some_readable}
 use Rattle.labelled.specs.Label.{labelled}
 use Rattle.fields.specs.Packet.{Packet}
-use Rattle.running.specs.Run.{ran_numbers, ran_uses}
+use Rattle.running.specs.Run.{ran_numbers, ran_uses, ran}
 use Rattle.running.specs.declared.Ran.{Ran}
-use Rattle.running.specs.declared.Ran.TheVariants.{Text}
 use Rattle.labelling.specs.LabelPacket.{label_packet}
 use Rattle.labelling.specs.Claims.{LabelChecked, LabelCompletes}
 use Rattle.labelling.proofs.Stages.{LabelStaged, stops, ends}
 use Rattle.labelling.proofs.Refused.{Checking, fails, goes_on, checking, label_checked, refuses_with}
 
 -- "Translate, Read of the label, Label, Write" ([1]): the text written is that of the labelled tree of the packet's rule and label, in no step.
-pub label_writes : (w s o l : List ℕ) (j u n : ℕ) (k : Uses) → (label_packet w s o l).answer ≡ Text j u n k → LabelCompletes w s o l u n
+pub label_writes : (w s o l : List ℕ) (j u n : ℕ) (k : Uses) → (label_packet w s o l).answer ≡ ran j u n k → LabelCompletes w s o l u n
 unfolding ran_numbers ran_uses
 label_writes w s o l j u n k q = go (checking w s o l)
   where
@@ -39,7 +40,7 @@ label_writes w s o l j u n k q = go (checking w s o l)
         let b : z.used ≡ u = cc in
         let d : n ≡ length (text r) = cc in
         let words : (label_packet w s o l).table ≡ z.words = cc in
-        let out : (label_packet w s o l).out ≡ text r ++ drop n o = rw d (ap (λ (x : Outcome Ran). x.out) e) in
+        let out : (label_packet w s o l).out ≡ text r ++ drop n o = rw d (ap (λ (x : Outcome (Result Ran Refusal)). x.out) e) in
         record {
           numbers = rw (q, i);
           uses_none = rw (q, a);

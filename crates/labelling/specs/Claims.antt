@@ -1,6 +1,6 @@
 -- What is claimed of `label_packet`: where it is refused, what it lacked and which words it cleared; where it writes a text, which, and with how many
 -- nodes ([1]). Assumes nothing: these are definitions.
-use Rattle.std.specs.Prelude.{ℕ, ◌+◌, ◌*◌, ◌≤◌, ◌≡◌, List, [], ◌∷◌, ◌++◌, ◌⊎◌, length, take, drop, get_or}
+use Rattle.std.specs.Prelude.{ℕ, ◌+◌, ◌*◌, ◌≤◌, ◌≡◌, List, [], ◌∷◌, ◌++◌, ◌⊎◌, length, take, drop, get_or, Result}
 use Rattle.std.proofs.Math.Option.{none, some}
 use Rattle.calculus.specs.Tree.{Tree, size}
 use Rattle.calculus.specs.Uses.{no_uses}
@@ -19,10 +19,9 @@ use Rattle.ternary.specs.Held.{Spent}
 use Rattle.labelled.specs.Label.{labelled, nodes}
 use Rattle.labelled.specs.Claims.{LabelLacking}
 use Rattle.fields.specs.Packet.{Packet, packet}
-use Rattle.running.specs.Run.{texts, ran_numbers, ran_uses}
+use Rattle.running.specs.Run.{texts, ran_numbers, ran_uses, not_ran, ran}
 use Rattle.running.specs.Claims.{Fit, Unreadable, Checked, TranslateStops, TranslateHad, ReadStops, ReadsHad, TooFew}
 use Rattle.running.specs.declared.Ran.{Ran}
-use Rattle.running.specs.declared.Ran.TheVariants.{Text, Refused}
 use Rattle.labelling.specs.LabelPacket.{label_packet}
 
 -- What holds where none of the four checks refuses: those of Run pass ("checks the packet alike"), and the packet has a label, of the text v and the
@@ -55,14 +54,14 @@ pub data LabelStops (w s o : List ℕ) (t : Term) (v : List ℕ) (x : Tree) : Re
 
 -- What was not so where `label_packet` refuses with e, and the whole outcome q: 1, 6, 5 and 4 "leave lent memory as found". Then a stage stops with 8 to
 -- 10: the words of the m nodes made since the entry are 0 and all others as found, the stack is 0, and "the out bytes stay as at entry".
-pub data LabelRefuses (w s o l : List ℕ) (q : Outcome Ran) : Refusal → Type 0 where
-  too_long : (Fit w s o → ⊥) → q ≡ whole_out (Refused Limits) w s o → LabelRefuses w s o l q Limits
-  no_packet : Fit w s o → NoLabel l → q ≡ whole_out (Refused refusal.Packet) w s o → LabelRefuses w s o l q refusal.Packet
-  no_rule : Fit w s o → {p : Packet} → Labelled l p → rule p.rule ≡ none → q ≡ whole_out (Refused Rule) w s o → LabelRefuses w s o l q Rule
-  no_text : Fit w s o → {p : Packet} → Labelled l p → {t : Term} → rule p.rule ≡ some t → Unreadable (texts p) → q ≡ whole_out (Refused refusal.Text) w s o
+pub data LabelRefuses (w s o l : List ℕ) (q : Outcome (Result Ran Refusal)) : Refusal → Type 0 where
+  too_long : (Fit w s o → ⊥) → q ≡ whole_out (not_ran Limits) w s o → LabelRefuses w s o l q Limits
+  no_packet : Fit w s o → NoLabel l → q ≡ whole_out (not_ran refusal.Packet) w s o → LabelRefuses w s o l q refusal.Packet
+  no_rule : Fit w s o → {p : Packet} → Labelled l p → rule p.rule ≡ none → q ≡ whole_out (not_ran Rule) w s o → LabelRefuses w s o l q Rule
+  no_text : Fit w s o → {p : Packet} → Labelled l p → {t : Term} → rule p.rule ≡ some t → Unreadable (texts p) → q ≡ whole_out (not_ran refusal.Text) w s o
       → LabelRefuses w s o l q refusal.Text
   stops : {p : Packet} {t : Term} {v : List ℕ} {x : Tree} → LabelChecked w s o l p t v x → {e : Refusal} {m : ℕ} → LabelStops w s o t v x e m → m ≤ capacity w
-      → q ≡ whole_out (Refused e) (cleared w 0 (m * 2)) (zeros s) o → LabelRefuses w s o l q e
+      → q ≡ whole_out (not_ran e) (cleared w 0 (m * 2)) (zeros s) o → LabelRefuses w s o l q e
 
 -- the refusals that come: those of the four checks, and of a stage 8, 9 and 10
 pub data Comes : Refusal → Type 0 where
@@ -75,7 +74,7 @@ pub data Comes : Refusal → Type 0 where
 -- `label_packet`'s answer is the text of the labelled tree r, in no step, or 8, 9 or 10
 abbrev pub Labels : List ℕ → List ℕ → List ℕ → List ℕ → Tree → Type 0
 Labels w s o l r =
-    ((u : ℕ) × ((label_packet w s o l).answer ≡ Text 0 u (length (text r)) no_uses)) ⊎ ((e : Refusal) × TooFew e × ((label_packet w s o l).answer ≡ Refused e))
+    ((u : ℕ) × ((label_packet w s o l).answer ≡ ran 0 u (length (text r)) no_uses)) ⊎ ((e : Refusal) × TooFew e × ((label_packet w s o l).answer ≡ not_ran e))
 
 -- What is claimed of a `label_packet` that writes n digits and leaves u nodes in use.
 pub record LabelCompletes (w s o l : List ℕ) (u n : ℕ) : Type 0 where

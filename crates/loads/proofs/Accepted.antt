@@ -10,8 +10,8 @@ use Rattle.calculus.specs.Tree.{Tree}
 use Rattle.table.specs.Nodes.{Placed, got, capacity, lay}
 use Rattle.table.specs.Outcome.{frames, at_entry, placed}
 use Rattle.table.specs.declared.Refusal.{Refusal}
-use Rattle.table.specs.declared.Made.TheVariants.{Refused}
 use Rattle.table.proofs.Words.{zero_one}
+use Rattle.table.specs.Refusal.{not_made}
 use Rattle.ternary.specs.Text.{text, most_pending}
 use Rattle.ternary.specs.Wanted.{wanted_after, wanted_from, wanted, many_wanted, most_wanted}
 use Rattle.ternary.specs.Read.{read}
@@ -62,7 +62,7 @@ module _ (seed n : ℕ) (k : IsCount n) where
     load_reads e f {m} g = read_lays w u s (load seed n) (record { entered = e; readable_as = load_readable; frames_enough = f; placed_as = m; nodes_enough = g })
 
     -- The other way: where Read refuses a load, one of these is lacking.
-    pub load_refused : (e : Refusal) → (read w u s (load seed n)).answer ≡ Refused e → LoadLacks w u s (load seed n) e
+    pub load_refused : (e : Refusal) → (read w u s (load seed n)).answer ≡ not_made e → LoadLacks w u s (load seed n) e
     load_refused e q = go (read_lacks w u s (load seed n) e q)
       where
         go : {f : Refusal} {w' s' : List ℕ} → ReadLacks w u s (load seed n) f w' s' → LoadLacks w u s (load seed n) f

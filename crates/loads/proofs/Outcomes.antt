@@ -8,32 +8,32 @@ use native.Mathlib.Omega.{arith}
 use lib.ListN.{length, drop}
 use lib.Dec.{leb}
 use borrow.Author.Tests.{leb-true, leb-false, le-leb, lt-leb}
+use Rattle.std.specs.Prelude.{Err, Ok}
 use Rattle.table.specs.Outcome.{Outcome, whole_out, into_out}
 use Rattle.table.specs.declared.Refusal.TheVariants.{Out}
-use Rattle.ternary.specs.declared.Written.{Written}
-use Rattle.ternary.specs.declared.Written.TheVariants.{Digits, Refused}
 use Rattle.loads.specs.Loads.{digits_from, first_drawing, load, generate}
 use Rattle.loads.specs.Claims.{IsCount, Generates}
 use Rattle.loads.specs.Claims.Generates.{empty, no_room, written}
 use Rattle.loads.proofs.Loads.{count_case, load_inside, load_outside, load_many, load_draws, draws_load}
+use Rattle.ternary.specs.Write.{Written}
 
 module _ (seed n : ℕ) (out : List ℕ) where
   -- one law for each way that an answer is given
-  pub generate_empty : (IsCount n → ⊥) → generate seed n out ≡ whole_out (Digits 0) [] [] out
+  pub generate_empty : (IsCount n → ⊥) → generate seed n out ≡ whole_out (Ok 0) [] [] out
   unfolding generate into_out
   generate_empty h = rw (load_outside seed n h, le-leb 0 (length out) (omega arith))
 
-  pub generate_short : IsCount n → length out < n → generate seed n out ≡ whole_out (Refused Out) [] [] out
+  pub generate_short : IsCount n → length out < n → generate seed n out ≡ whole_out (Err Out) [] [] out
   unfolding generate into_out
   generate_short k h = rw (load_many seed n k, lt-leb n (length out) h)
 
-  pub generate_written : IsCount n → n ≤ length out → generate seed n out ≡ whole_out (Digits n) [] [] (load seed n ++ drop n out)
+  pub generate_written : IsCount n → n ≤ length out → generate seed n out ≡ whole_out (Ok n) [] [] (load seed n ++ drop n out)
   unfolding generate into_out
   generate_written k h = rw (load_many seed n k, le-leb n (length out) h)
 
   -- the same with the digits written one by one
-  pub generate_digits : {out' : List ℕ} → IsCount n → n ≤ length out → out' ≡ digits_from n (first_drawing seed) ++ drop n out → whole_out (Digits n) [] [] out' ≡ generate seed n out
-  generate_digits k h e = ap (λ (l : List ℕ). whole_out (Digits n) [] [] l) (e ∙ ap (λ (l : List ℕ). l ++ drop n out) (sym (load_inside seed n k))) ∙ sym (generate_written k h)
+  pub generate_digits : {out' : List ℕ} → IsCount n → n ≤ length out → out' ≡ digits_from n (first_drawing seed) ++ drop n out → whole_out (Ok n) [] [] out' ≡ generate seed n out
+  generate_digits k h e = ap (λ (l : List ℕ). whole_out (Ok n) [] [] l) (e ∙ ap (λ (l : List ℕ). l ++ drop n out) (sym (load_inside seed n k))) ∙ sym (generate_written k h)
 
   generate_case : Generates seed n out (generate seed n out)
   generate_case = go (count_case n) (leb n (length out)) refl
@@ -50,4 +50,4 @@ module _ (seed n : ℕ) (out : List ℕ) where
       only : Generates seed n out o → generate seed n out ≡ o
       only (empty h e) = generate_empty h ∙ sym e
       only (no_room k h e) = generate_short k h ∙ sym e
-      only (written k h {l} x e) = generate_written k h ∙ ap (λ (m : List ℕ). whole_out (Digits n) [] [] (m ++ drop n out)) (draws_load seed n k l x) ∙ sym e
+      only (written k h {l} x e) = generate_written k h ∙ ap (λ (m : List ℕ). whole_out (Ok n) [] [] (m ++ drop n out)) (draws_load seed n k l x) ∙ sym e

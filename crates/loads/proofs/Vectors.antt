@@ -5,11 +5,11 @@ use mathlib.Core.Bool.{true, false}
 use mathlib.Core.List.{[], ◌∷◌, map}
 use mathlib.Core.Option.{none, some}
 use lib.ListN.{replicate}
+use Rattle.std.specs.Prelude.{Err, Ok}
 use Rattle.table.specs.Outcome.{whole_out, into_out}
 use Rattle.table.specs.Refusal.{number}
 use Rattle.table.specs.declared.Refusal.TheVariants.{Out}
 use Rattle.ternary.specs.Wanted.{wanted_after}
-use Rattle.ternary.specs.declared.Written.TheVariants.{Digits, Refused}
 use Rattle.loads.specs.Loads.{next_state, drawn, can_end, those, three_digits, allowed, pick, digit_at, next_drawing, digits_from, first_drawing, is_count, load, generate, generated_numbers}
 use Rattle.loads.specs.Claims.{state_after}
 
@@ -46,9 +46,9 @@ two_draws = refl
 
 -- "For any n outside, the load is empty, whatever the output. Otherwise an output shorter than n gives 10 and stays as it was." ([10]): 0 and 4,096 digits
 -- into one byte and into none, 2 into one, 5 into seven
-pub outcomes : (generate 0 0 (7 ∷ []) ≡ whole_out (Digits 0) [] [] (7 ∷ [])) × (generate 0 4096 [] ≡ whole_out (Digits 0) [] [] [])
-    × (generate 0 2 (7 ∷ []) ≡ whole_out (Refused Out) [] [] (7 ∷ []))
-    × (generate 4294967295 5 (replicate 7 7) ≡ whole_out (Digits 5) [] [] (50 ∷ 50 ∷ 48 ∷ 48 ∷ 48 ∷ 7 ∷ 7 ∷ []))
+pub outcomes : (generate 0 0 (7 ∷ []) ≡ whole_out (Ok 0) [] [] (7 ∷ [])) × (generate 0 4096 [] ≡ whole_out (Ok 0) [] [] [])
+    × (generate 0 2 (7 ∷ []) ≡ whole_out (Err Out) [] [] (7 ∷ []))
+    × (generate 4294967295 5 (replicate 7 7) ≡ whole_out (Ok 5) [] [] (50 ∷ 50 ∷ 48 ∷ 48 ∷ 48 ∷ 7 ∷ 7 ∷ []))
 unfolding generate into_out load is_count digits_from first_drawing next_drawing digit_at pick allowed those three_digits can_end wanted_after drawn next_state
 outcomes = (refl, refl, refl, refl)
 
@@ -58,6 +58,6 @@ unfolding is_count
 borders = refl
 
 -- the numbers of an answer: the refusal, and the digits written
-pub answers : map generated_numbers (Digits 12 ∷ Digits 0 ∷ Refused Out ∷ []) ≡ (0 ∷ 12 ∷ []) ∷ (0 ∷ 0 ∷ []) ∷ (10 ∷ 0 ∷ []) ∷ []
+pub answers : map generated_numbers (Ok 12 ∷ Ok 0 ∷ Err Out ∷ []) ≡ (0 ∷ 12 ∷ []) ∷ (0 ∷ 0 ∷ []) ∷ (10 ∷ 0 ∷ []) ∷ []
 unfolding generated_numbers number
 answers = refl

@@ -1,5 +1,5 @@
 -- What is claimed of loads, without the definitions that compute them but for what is drawn ([10]). Assumes nothing: these are definitions.
-use Rattle.std.specs.Prelude.{ℕ, zero, suc, ◌%◌, ◌≤◌, ◌<◌, ◌≡◌, true, ◌↔◌, length, get_or, take, drop}
+use Rattle.std.specs.Prelude.{ℕ, zero, suc, ◌%◌, ◌≤◌, ◌<◌, ◌≡◌, true, ◌↔◌, length, get_or, take, drop, Err, Ok}
 use mathlib.Core.List.{List, [], ◌∷◌, ◌++◌, Memᴰ}
 use Rattle.std.proofs.Math.Option.{none, some}
 use Rattle.calculus.specs.Tree.{Tree}
@@ -11,8 +11,7 @@ use Rattle.table.specs.declared.Refusal.{Refusal}
 use Rattle.table.specs.declared.Refusal.TheVariants.{Nodes, Frames, Out}
 use Rattle.ternary.specs.Text.{tree_of, most_pending}
 use Rattle.ternary.specs.Wanted.{Completes}
-use Rattle.ternary.specs.declared.Written.{Written}
-use Rattle.ternary.specs.declared.Written.TheVariants.{Digits, Refused}
+use Rattle.ternary.specs.Write.{Written}
 use Rattle.loads.specs.Loads.{next_state, drawn}
 
 -- "A digit is allowed if the text can still become a whole tree of exactly n digits." ([10]): the digit c after the digits l
@@ -54,9 +53,9 @@ pub data IsLoad (seed n : ℕ) : List ℕ → Type 0 where
 -- Each outcome o with its condition: "For any n outside, the load is empty, whatever the output. Otherwise an output shorter than n gives 10 and stays as it
 -- was." ([10]) "out bytes past what is written stay" ([3]).
 pub data Generates (seed n : ℕ) (out : List ℕ) (o : Outcome Written) : Type 0 where
-  empty : (IsCount n → ⊥) → o ≡ whole_out (Digits 0) [] [] out → Generates seed n out o
-  no_room : IsCount n → length out < n → o ≡ whole_out (Refused Out) [] [] out → Generates seed n out o
-  written : IsCount n → n ≤ length out → {l : List ℕ} → Draws seed n l → o ≡ whole_out (Digits n) [] [] (l ++ drop n out) → Generates seed n out o
+  empty : (IsCount n → ⊥) → o ≡ whole_out (Ok 0) [] [] out → Generates seed n out o
+  no_room : IsCount n → length out < n → o ≡ whole_out (Err Out) [] [] out → Generates seed n out o
+  written : IsCount n → n ≤ length out → {l : List ℕ} → Draws seed n l → o ≡ whole_out (Ok n) [] [] (l ++ drop n out) → Generates seed n out o
 
 -- "Every nonempty load is a whole text that Read accepts given a table that passes 1 and 2, nodes and frames." ([10]): what is lacking where Read refuses the
 -- load l with e, which is never 4

@@ -1,12 +1,11 @@
 -- Loads ([10]): what is drawn from a seed, the digits allowed, the digits of a load, and the whole outcome of generating one. Assumes nothing:
 -- these are definitions.
-use Rattle.std.specs.Prelude.{ℕ, zero, suc, ◌+◌, ◌*◌, ◌/◌, ◌%◌, Bool, false, cond, ◌&&◌, List, [], ◌∷◌, length, get_or, leb, eqb}
+use Rattle.std.specs.Prelude.{ℕ, zero, suc, ◌+◌, ◌*◌, ◌/◌, ◌%◌, Bool, false, cond, ◌&&◌, List, [], ◌∷◌, length, get_or, leb, eqb, Err, Ok}
 use Rattle.std.proofs.Math.Option.{Option, none, some}
 use Rattle.table.specs.Outcome.{Outcome, into_out}
 use Rattle.table.specs.Refusal.{number}
 use Rattle.ternary.specs.Wanted.{wanted_after}
-use Rattle.ternary.specs.declared.Written.{Written}
-use Rattle.ternary.specs.declared.Written.TheVariants.{Digits, Refused}
+use Rattle.ternary.specs.Write.{Written}
 
 -- "the next state is state times 1,664,525 plus 1,013,904,223, kept to 32 bits" ([10])
 unfoldable pub next_state : ℕ → ℕ
@@ -75,9 +74,9 @@ load seed n = cond (is_count n) (digits_from n (first_drawing seed)) []
 -- "For any n outside, the load is empty, whatever the output. Otherwise an output shorter than n gives 10 and stays as it was." ([10]): an empty load goes
 -- into every output.
 unfoldable pub generate : ℕ → ℕ → List ℕ → Outcome Written
-generate seed n out = into_out Digits Refused (load seed n) out
+generate seed n out = into_out Ok Err (load seed n) out
 
 -- the numbers of the answer: the refusal or 0, and how many digits were written; "0 for [..] digits" on a refusal (document 01, Operations)
 unfoldable pub generated_numbers : Written → List ℕ
-generated_numbers (Digits n) = 0 ∷ n ∷ []
-generated_numbers (Refused e) = number e ∷ 0 ∷ []
+generated_numbers (Ok n) = 0 ∷ n ∷ []
+generated_numbers (Err e) = number e ∷ 0 ∷ []

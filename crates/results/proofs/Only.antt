@@ -8,20 +8,18 @@ use Rattle.calculus.proofs.Rule.{rule_exact}
 use Rattle.calculus.proofs.Size.{rule_tree_lem}
 use Rattle.rewriting.proofs.Normal.{term_closed}
 use Rattle.rewriting.proofs.Rules.{apply_way, apply_all_way, eval_way, applied_closed, closed_term_closed, result_by}
-use Rattle.applying.specs.declared.Applied.TheVariants.{Node}
-use Rattle.applying.specs.Apply.{apply}
+use Rattle.applying.specs.Apply.{apply, applied}
 use Rattle.applying.proofs.Follows.{apply_follows}
-use Rattle.running.specs.Run.{run}
-use Rattle.running.specs.declared.Ran.TheVariants.{Text}
+use Rattle.running.specs.Run.{run, ran}
 use Rattle.running.proofs.Direct.{run_direct}
 use Rattle.results.specs.Claims.{ApplyResult, RunResult}
 
 -- "a tree given by Apply is the only one they can end in" ([11]), and the uses that Apply returns are such a way
-pub apply_only : (w : List ℕ) (u : ℕ) (s : List ℕ) (f n limit v u' j : ℕ) (k : Uses) → (apply w u s f n limit).answer ≡ Node v u' j k → ApplyResult w u s f n limit v k
+pub apply_only : (w : List ℕ) (u : ℕ) (s : List ℕ) (f n limit v u' j : ℕ) (k : Uses) → (apply w u s f n limit).answer ≡ applied v u' j k → ApplyResult w u s f n limit v k
 apply_only w u s f n limit v u' j k e = result_by _ (term_closed _, term_closed _) (apply_way (apply_follows w u s f n limit v u' j k e).applies)
 
 -- the same of Run and its arguments
-pub run_only : (w s o l : List ℕ) (m u n : ℕ) (k : Uses) → (run w s o l).answer ≡ Text m u n k → RunResult w s o l m u n k
+pub run_only : (w s o l : List ℕ) (m u n : ℕ) (k : Uses) → (run w s o l).answer ≡ ran m u n k → RunResult w s o l m u n k
 unfolding Direct
 run_only w s o l m u n k e =
     let c = run_direct w s o l m u n k e in

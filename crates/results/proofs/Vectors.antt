@@ -19,12 +19,11 @@ use Rattle.rewriting.specs.Ways.{at_root, in_function, Way, arrived, goes_by, us
 use Rattle.rewriting.specs.Claims.{OnlyResult}
 use Rattle.rewriting.proofs.Normal.{term_closed}
 use Rattle.rewriting.proofs.Rules.{way_by, result_by}
-use Rattle.applying.specs.declared.Applied.TheVariants.{Node, Refused}
 use Rattle.applying.specs.declared.Frame.TheVariants.{SpreadSecond}
 use Rattle.applying.specs.Machine as machine
 use Rattle.applying.specs.Machine.{State, Turn, more, done, stop, turn, after, uses}
 use Rattle.applying.specs.Apply as machine-apply
-use Rattle.applying.specs.Apply.{begin, apply}
+use Rattle.applying.specs.Apply.{begin, apply, applied, not_applied}
 use Rattle.applying.proofs.Follows.{apply_follows}
 
 -- Δ(Δω)(K(KΔ)), where ω is 001's self_apply and document 01's 212101021010
@@ -47,7 +46,7 @@ no_tree r k (by_spread a b c) = endless _ _ b
 
 -- and Apply gives no node for it, whatever it is lent and whatever the limit
 pub never : (w : List ℕ) (u : ℕ) (s : List ℕ) (f n limit : ℕ) → tree_at w f ≡ unneeded → tree_at w n ≡ ω
-    → (v u' j : ℕ) (k : Uses) → (apply w u s f n limit).answer ≡ Node v u' j k → ⊥
+    → (v u' j : ℕ) (k : Uses) → (apply w u s f n limit).answer ≡ applied v u' j k → ⊥
 never w u s f n limit p q v u' j k e = no_tree _ k (rw (p, q) at (apply_follows w u s f n limit v u' j k e).applies)
 
 -- a table with ω in node 4 and the program in node 8, and one free node
@@ -106,12 +105,12 @@ unfolding nodes.has_words nodes.find nodes.is_none nodes.new_node nodes.or_new n
 goes_on k = let s = begin words 9 8 4 in one k s (two (suc k) s (eight (suc (suc (suc k))) s (rounds k _)))
 
 -- On the table above, with three frames, Apply takes as many steps as it is allowed.
-pub busy : (limit : ℕ) → limit ≤ 1000000 → (apply words 9 (replicate 9 5) 8 4 limit).answer ≡ Refused Steps
+pub busy : (limit : ℕ) → limit ≤ 1000000 → (apply words 9 (replicate 9 5) 8 4 limit).answer ≡ not_applied Steps
 unfolding nodes.broken nodes.has_words nodes.find nodes.is_none nodes.sound outcome.fits outcome.at_entry outcome.stopped
     machine-apply.settle machine-apply.apply_nodes machine-apply.apply
 busy limit h = rw (le-leb limit 1000000 h) (go (uses 3 limit (begin words 9 8 4)) (goes_on limit))
   where
-    go : (x : Turn) → GoesOn x → (machine-apply.settle 9 (replicate 9 5) x).answer ≡ Refused Steps
+    go : (x : Turn) → GoesOn x → (machine-apply.settle 9 (replicate 9 5) x).answer ≡ not_applied Steps
     go (more z) g = refl
     go (done _ _) g = elim g [ ]
     go (stop _ _) g = elim g [ ]

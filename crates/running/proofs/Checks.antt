@@ -17,11 +17,10 @@ use Rattle.table.specs.declared.Refusal.TheVariants as refusal
 use Rattle.table.proofs.Words.{and_left, and_right, zero_one}
 use Rattle.ternary.specs.Read.{readable}
 use Rattle.fields.specs.Packet.{Packet, packet}
-use Rattle.running.specs.Run.{all_readable, label_texts, texts, parts_lack, run_packet, lengths_fit, run}
+use Rattle.running.specs.Run.{all_readable, label_texts, texts, parts_lack, run_packet, lengths_fit, run, not_ran}
 use Rattle.running.specs.Tell.{told, tell_packet, tell}
 use Rattle.running.specs.Claims.{Fit, Unreadable, here, there, LabelReads, no_label, label_of, Checked, Refuses}
 use Rattle.running.specs.Claims as refuses
-use Rattle.running.specs.declared.Ran.TheVariants.{Refused}
 use Rattle.running.proofs.Limit.{packet_limit}
 use Rattle.running.proofs.Outcomes.{Staged, Tells}
 use Rattle.running.proofs.Stages.{stages_staged}
@@ -124,24 +123,24 @@ not_fit {w} {s} {o} h = go (lengths_fit w s o) refl
 
 module _ {w s o : List ℕ} (l : List ℕ) where
   -- "1: lengths only."
-  pub run_long : (Fit w s o → ⊥) → run w s o l ≡ whole_out (Refused refusal.Limits) w s o
+  pub run_long : (Fit w s o → ⊥) → run w s o l ≡ whole_out (not_ran refusal.Limits) w s o
   unfolding run
   run_long h = rw (not_fit h)
 
   module _ (fit : Fit w s o) where
     -- "6: packet broken."
-    pub run_broken_packet : packet l ≡ none → run w s o l ≡ whole_out (Refused refusal.Packet) w s o
+    pub run_broken_packet : packet l ≡ none → run w s o l ≡ whole_out (not_ran refusal.Packet) w s o
     unfolding run run_packet
     run_broken_packet e = rw (fit_true fit, e)
 
     -- "5: its rule."
-    pub run_bad_rule : {p : Packet} → packet l ≡ some p → rule p.rule ≡ none → run w s o l ≡ whole_out (Refused refusal.Rule) w s o
+    pub run_bad_rule : {p : Packet} → packet l ≡ some p → rule p.rule ≡ none → run w s o l ≡ whole_out (not_ran refusal.Rule) w s o
     unfolding run run_packet
     run_bad_rule {p} e q = rw (fit_true fit, e, rule_lacks p q)
 
     -- "4: its arguments' texts, first to last.", and then the label's ([1])
     pub run_bad_text : {p : Packet} → packet l ≡ some p → {t : Term} → rule p.rule ≡ some t → Unreadable (texts p)
-        → run w s o l ≡ whole_out (Refused refusal.Text) w s o
+        → run w s o l ≡ whole_out (not_ran refusal.Text) w s o
     unfolding run run_packet
     run_bad_text {p} e q u = rw (fit_true fit, e, texts_lack p q u)
 

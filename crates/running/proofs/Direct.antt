@@ -1,4 +1,6 @@
 -- What a Run that writes a text is: the direct run of the packet's rule on its arguments. Assumes nothing.
+use Rattle.std.specs.Prelude.{Err, Ok, Result}
+use Rattle.std.specs.Prelude as code
 use Prim.Native.Nat.{ℕ}
 use mathlib.Core.Path.{◌≡◌, refl, sym, ap, ◌∙◌}
 use mathlib.Core.List.{List, [], ◌∷◌, ◌++◌, map}
@@ -9,6 +11,7 @@ use lib.Seq.{take_at}
 use Rattle.table.specs.Nodes.{Table}
 use Rattle.table.specs.Outcome.{Outcome}
 use Rattle.table.specs.Refusal.{refused_numbers}
+use Rattle.table.specs.declared.Refusal.{Refusal}
 use Rattle.calculus.specs.Tree.{Tree}
 use Rattle.calculus.specs.declared.Uses.{Uses}
 use Rattle.calculus.specs.Uses.{steps, InSteps}
@@ -24,10 +27,9 @@ use Rattle.ternary.specs.Read.{readable}
 use Rattle.table.proofs.Words.{zero_one}
 use Rattle.ternary.proofs.Reading.{readable_some}
 use Rattle.fields.specs.Packet.{Packet}
-use Rattle.running.specs.Run.{run, ran_numbers, ran_uses}
+use Rattle.running.specs.Run.{run, ran_numbers, ran_uses, not_ran, ran}
 use Rattle.running.specs.Claims.{end_table, Checked, Completes}
 use Rattle.running.specs.declared.Ran.{Ran}
-use Rattle.running.specs.declared.Ran.TheVariants.{Text, Refused}
 use Rattle.running.specs.declared.Stop.{Stop}
 use Rattle.running.proofs.Undone.{reached_ends}
 use Rattle.running.proofs.Outcomes.{Staged, stops, ends}
@@ -44,11 +46,11 @@ trees_of (l ∷ ls) (x ∷ xs) e = let h = (readable_some l x (cc)).tree_is in l
 module _ (w s o l : List ℕ) (m u n : ℕ) (k : Uses) where
   -- "Run a packet": where Run writes a text, with one argument or more it is that of the tree that the direct run of the packet's rule on its arguments
   -- ends in; with one argument the steps are the direct run's plus 2L + 5X − 1. "Their sum is the steps" ([5]), and the uses are the sums over its arguments.
-  pub run_direct : (run w s o l).answer ≡ Text m u n k → Completes w s o l m u n k
+  pub run_direct : (run w s o l).answer ≡ ran m u n k → Completes w s o l m u n k
   unfolding Translated ran_numbers ran_uses end_table
   run_direct q = go (checking w s o l)
     where
-      of_stages : {p : Packet} {t : Term} {args : List Tree} {at : Stop} → Checked w s o l p t args → Staged w s o p t args (run w s o l) at → Completes w s o l m u n k
+      of_stages : {p : Packet} {t : Term} {args : List Tree} {at : (code.Option Stop)} → Checked w s o l p t args → Staged w s o p t args (run w s o l) at → Completes w s o l m u n k
       of_stages c (stops h b e i) = zero_one (cc)
       of_stages {p} {t} {args} c (ends {r = r} {k = j} {z = z} h e no_stop) =
           let a : j ≡ k = cc in
@@ -56,7 +58,7 @@ module _ (w s o l : List ℕ) (m u n : ℕ) (k : Uses) where
           let b : z.used ≡ u = cc in
           let d : n ≡ length (text r) = cc in
           let words : (run w s o l).table ≡ z.words = cc in
-          let out : (run w s o l).out ≡ text r ++ drop n o = rw d (ap (λ (x : Outcome Ran). x.out) e) in
+          let out : (run w s o l).out ≡ text r ++ drop n o = rw d (ap (λ (x : Outcome (Result Ran Refusal)). x.out) e) in
           let x : ApplyAll (rule_tree t) args r k = rw (← a) h.translated in
           let y : InSteps (ApplyAll (rule_tree t) args r) m = record { uses = k; gives = x; counted = sym i } in
           let rules = c.is_rule in
@@ -104,6 +106,6 @@ pub run_sum : (w s o l : List ℕ) → (ran_numbers (run w s o l).answer).steps 
 unfolding ran_numbers ran_uses refused_numbers
 run_sum w s o l = go (run w s o l).answer refl
   where
-    go : (a : Ran) → (run w s o l).answer ≡ a → (ran_numbers a).steps ≡ steps (ran_uses a)
-    go (Text j u n k) e = (run_direct w s o l j u n k e).steps_are
-    go (Refused d) e = refl
+    go : (a : (Result Ran Refusal)) → (run w s o l).answer ≡ a → (ran_numbers a).steps ≡ steps (ran_uses a)
+    go (Ok m) e = (run_direct w s o l m.steps m.used m.digits m.uses e).steps_are
+    go (Err d) e = refl

@@ -15,9 +15,8 @@ use Rattle.table.specs.Nodes.{Table}
 use Rattle.ternary.specs.Text.{tree_of}
 use Rattle.table.proofs.Words.{zero_one}
 use Rattle.fields.specs.Packet.{Packet, packet}
-use Rattle.running.specs.Run.{run}
+use Rattle.running.specs.Run.{run, ran}
 use Rattle.running.specs.Claims.{total, end_table, ReadsHad, all_read, Completes, Bare}
-use Rattle.running.specs.declared.Ran.TheVariants.{Text}
 use Rattle.running.proofs.Direct.{run_direct}
 
 -- nothing applied to is nothing applied
@@ -31,7 +30,7 @@ none_read all_read = (refl, refl)
 -- "then none to eight of tag 2, an argument's text" (The packet): with none of them, the text is that of the translated rule, in no step. Of "Rule 02 03 00
 -- without arguments" (Depot examples) the line is 0 0 3 21010, by "rows and lines that count nodes are worked out afresh" ([8]).
 pub run_empty : (w s o l : List ℕ) (j u n : ℕ) (k : Uses) (p : Packet) (t : Term) → packet l ≡ some p → p.arguments ≡ [] → rule p.rule ≡ some t
-    → (run w s o l).answer ≡ Text j u n k → Bare w s o l t j u n k
+    → (run w s o l).answer ≡ ran j u n k → Bare w s o l t j u n k
 unfolding total end_table
 run_empty w s o l j u n k p t e a q h = go x.args (ap (map tree_of) (sym (ap (λ (y : Packet). y.arguments) sent ∙ a)) ∙ x.arguments_are) x.translated
   where

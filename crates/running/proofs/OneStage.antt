@@ -7,6 +7,7 @@ use mathlib.Core.Option.{some}
 use native.Mathlib.Omega.{arith}
 use lib.ListN.{length, drop, length-replicate}
 use borrow.Author.Tests.{le-leb}
+use Rattle.std.specs.Prelude.{Err, Ok, Result}
 use Rattle.calculus.specs.Tree.{Tree, size}
 use Rattle.calculus.specs.declared.Uses.{Uses}
 use Rattle.calculus.specs.Uses.{steps}
@@ -16,13 +17,13 @@ use Rattle.calculus.specs.Abstraction.{rule_tree}
 use Rattle.table.specs.Nodes.{Table, Placed, got, capacity, sound, Sound, lay, cleared}
 use Rattle.table.specs.Outcome.{Entered, Outcome, whole_out, frames, zeros, placed}
 use Rattle.table.specs.declared.Refusal.{Refusal}
-use Rattle.table.specs.declared.Made.{Made}
-use Rattle.table.specs.declared.Made.TheVariants as made
 use Rattle.table.specs.Claims.{Extends, Has, Kept}
 use Rattle.table.proofs.Words.{zero_one}
 use Rattle.table.proofs.Trees.{extends_refl, extends_trans}
 use Rattle.table.proofs.Making.{has}
 use Rattle.table.proofs.Entry.{enters, lacks_entry}
+use Rattle.table.specs.Refusal.{made, not_made}
+use Rattle.table.specs.declared.Made.{Made}
 use Rattle.ternary.specs.Text.{text, most_pending}
 use Rattle.ternary.specs.Read.{read, readable}
 use Rattle.ternary.specs.Write as write
@@ -34,10 +35,9 @@ use Rattle.ternary.proofs.Writes.{write_case}
 use Rattle.translation.specs.Translate.{translate}
 use Rattle.translation.specs.Lacks.{Lacks}
 use Rattle.translation.proofs.Translates.{translate_gives, translate_lacks}
-use Rattle.running.specs.Run.{stopped, after_written, writes}
+use Rattle.running.specs.Run.{stopped, after_written, writes, not_ran, ran}
 use Rattle.running.specs.Claims.{Fit, TranslateStops, translate_nodes, translate_frames, TranslateHad, ReadStops, no_nodes, no_frames}
 use Rattle.running.specs.declared.Ran.{Ran}
-use Rattle.running.specs.declared.Ran.TheVariants.{Text, Refused}
 use Rattle.running.proofs.Undone.{Back, back_same, back_full, back_cleared}
 
 -- Between two stages: the table z, whose words were found as w with no node in use, and the stack y, lent as s.
@@ -55,9 +55,9 @@ pub enter : {w s : List ℕ} → length s ≤ 65536 → {z : Table} {y : List �
 enter short st e = record { table = st.fine; stack = omega (arith, short, st.stack); limits_kept = e }
 
 -- The outcome x of a stage that is refused with e once m nodes were made since the entry: they are cleared, and the stack; the out bytes stay.
-pub record Stopped (w s o : List ℕ) (m : ℕ) (e : Refusal) (x : Outcome Ran) : Type 0 where
+pub record Stopped (w s o : List ℕ) (m : ℕ) (e : Refusal) (x : Outcome (Result Ran Refusal)) : Type 0 where
   pub within : m ≤ capacity w
-  pub outcome : x ≡ whole_out (Refused e) (cleared w 0 (m * 2)) (zeros s) o
+  pub outcome : x ≡ whole_out (not_ran e) (cleared w 0 (m * 2)) (zeros s) o
 
 pub stop_here : {w s o : List ℕ} {z : Table} {y : List ℕ} → Stands w s z y → {m : ℕ} {x : List ℕ} → Back z m x → (v : List ℕ) → length v ≡ length s
     → {e : Refusal} → Stopped w s o m e (stopped e x z.used v o)
@@ -65,7 +65,7 @@ unfolding stopped
 stop_here st b v l = let c = back_cleared st.extends b in record { within = omega (arith, b.within, st.extends.kept.same_length); outcome = rw (c, l) }
 
 -- the table and the node that were placed
-placed_place : (m : Placed) (s : List ℕ) {q : Rattle.table.specs.Outcome.Outcome Made} {v u' : ℕ} → q ≡ placed m s → q.answer ≡ made.Node v u'
+placed_place : (m : Placed) (s : List ℕ) {q : Rattle.table.specs.Outcome.Outcome (Result Made Refusal)} {v u' : ℕ} → q ≡ placed m s → q.answer ≡ made v u'
     → m ≡ record { table = record { words = q.table; used = u' }; node = v }
 unfolding placed
 placed_place m s {q} {v} {u'} e h =
@@ -83,8 +83,8 @@ pub record Translated (w s b : List ℕ) (t : Term) (v u : ℕ) : Type 0 where
   pub used_most : u ≤ size (rule_tree t)
 
 pub data Translating (w s o b : List ℕ) (t : Term) : Type 0 where
-  translated : (v u : ℕ) → (translate w 0 s b).answer ≡ made.Node v u → Translated w s b t v u → Translating w s o b t
-  not_translated : (e : Refusal) (m : ℕ) → (translate w 0 s b).answer ≡ made.Refused e → TranslateStops w s t e m
+  translated : (v u : ℕ) → (translate w 0 s b).answer ≡ made v u → Translated w s b t v u → Translating w s o b t
+  not_translated : (e : Refusal) (m : ℕ) → (translate w 0 s b).answer ≡ not_made e → TranslateStops w s t e m
       → Stopped w s o m e (stopped e (translate w 0 s b).table 0 (translate w 0 s b).stack o) → Translating w s o b t
 
 -- what a stage that makes nodes lacked, how many nodes are in use where it stops, and what it leaves
@@ -98,7 +98,7 @@ pub translating : {w s o : List ℕ} → Fit w s o → (b : List ℕ) (t : Term)
 unfolding sound
 translating {w} {s} {o} fit b t is_rule = go r.answer refl
   where
-    r : Rattle.table.specs.Outcome.Outcome Made
+    r : Rattle.table.specs.Outcome.Outcome (Result Made Refusal)
     r = translate w 0 s b
 
     empty : Table
@@ -117,8 +117,8 @@ translating {w} {s} {o} fit b t is_rule = go r.answer refl
         let c : t' ≡ t = cc in
         record { made = capacity w; stops = translate_nodes (rw (← c) h) (rw c at k); back = back_full st.fine refl; stack = zeros_length _ s refl }
 
-    go : (a : Made) → r.answer ≡ a → Translating w s o b t
-    go (made.Node v u) e =
+    go : (a : (Result Made Refusal)) → r.answer ≡ a → Translating w s o b t
+    go (Ok m) e =
         let g = translate_gives w 0 s b v u e in
         let c : g.term ≡ t = cc g.is_rule in
         let d = rw c at g.lays.places in
@@ -132,7 +132,7 @@ translating {w} {s} {o} fit b t is_rule = go r.answer refl
           root = has d;
           used_most = omega (arith, g.lays.used_most, ap (λ (x : Term). size (rule_tree x)) c);
         })
-    go (made.Refused e) q =
+    go (Err e) q =
         let a = lacked (translate_lacks w 0 s b e q) in
         not_translated e a.made q a.stops (stop_here st {m = a.made} a.back r.stack a.stack)
 
@@ -147,14 +147,14 @@ pub record ReadAs (w s : List ℕ) (z : Table) (y l : List ℕ) (x : Tree) (n u 
   pub frames_enough : most_pending l ≤ frames s
 
 pub data Reading (w s o : List ℕ) (z : Table) (y l : List ℕ) (x : Tree) : Type 0 where
-  read_as : (n u : ℕ) → (read z.words z.used y l).answer ≡ made.Node n u → ReadAs w s z y l x n u → Reading w s o z y l x
-  not_read : (e : Refusal) (m : ℕ) → (read z.words z.used y l).answer ≡ made.Refused e → ((ls : List (List ℕ)) → ReadStops s z (l ∷ ls) e m)
+  read_as : (n u : ℕ) → (read z.words z.used y l).answer ≡ made n u → ReadAs w s z y l x n u → Reading w s o z y l x
+  not_read : (e : Refusal) (m : ℕ) → (read z.words z.used y l).answer ≡ not_made e → ((ls : List (List ℕ)) → ReadStops s z (l ∷ ls) e m)
       → Stopped w s o m e (stopped e (read z.words z.used y l).table z.used (read z.words z.used y l).stack o) → Reading w s o z y l x
 
 pub reading : {w s o : List ℕ} → Fit w s o → {z : Table} {y : List ℕ} → Stands w s z y → (l : List ℕ) (x : Tree) → readable l ≡ some x → Reading w s o z y l x
 reading {w} {s} {o} fit {z} {y} st l x is = go r.answer refl
   where
-    r : Rattle.table.specs.Outcome.Outcome Made
+    r : Rattle.table.specs.Outcome.Outcome (Result Made Refusal)
     r = read z.words z.used y l
 
     lacked : {e : Refusal} {x' y' : List ℕ} → ReadLacks z.words z.used y l e x' y'
@@ -174,8 +174,8 @@ reading {w} {s} {o} fit {z} {y} st l x is = go r.answer refl
           stack = zeros_length _ y refl ∙ st.stack;
         }
 
-    go : (a : Made) → r.answer ≡ a → Reading w s o z y l x
-    go (made.Node n u) e =
+    go : (a : (Result Made Refusal)) → r.answer ≡ a → Reading w s o z y l x
+    go (Ok m) e =
         let g = read_gives z.words z.used y l n u e in
         let c = g.places in
         let b : g.tree ≡ x = cc (some_readable g.had.readable_as) in
@@ -188,15 +188,15 @@ reading {w} {s} {o} fit {z} {y} st l x is = go r.answer refl
           nodes_enough = rw (← b) (g.had.nodes_enough ∙ ap got p);
           frames_enough = omega (arith, g.had.frames_enough, st.stack);
         })
-    go (made.Refused e) q =
+    go (Err e) q =
         let a = lacked (read_lacks z.words z.used y l e q) in
         not_read e a.made q a.stops (stop_here st {m = a.made} a.back r.stack a.stack)
 
 -- ---- Write of a node that has the tree x, after the uses k
 
-pub data Writing (w s o : List ℕ) (z : Table) (k : Uses) (x : Tree) (q : Outcome Ran) : Type 0 where
+pub data Writing (w s o : List ℕ) (z : Table) (k : Uses) (x : Tree) (q : Outcome (Result Ran Refusal)) : Type 0 where
   written : length (text x) ≤ length o
-      → q ≡ whole_out (Text (steps k) z.used (length (text x)) k) z.words (zeros s) (text x ++ drop (length (text x)) o) → Writing w s o z k x q
+      → q ≡ whole_out (ran (steps k) z.used (length (text x)) k) z.words (zeros s) (text x ++ drop (length (text x)) o) → Writing w s o z k x q
   not_written : (e : Refusal) → Spent (frames s) 0 x (length o) (write.lacks e) → Stopped w s o z.used e q → Writing w s o z k x q
 
 pub writing : {w s o : List ℕ} → Fit w s o → {z : Table} {y : List ℕ} → Stands w s z y → {v : ℕ} {x : Tree} → Has z v x → (k : Uses)

@@ -1,4 +1,6 @@
 -- What a refused Run leaves, and the exact condition of each check's refusal. Assumes nothing.
+use Rattle.std.specs.Prelude.{Result}
+use Rattle.std.specs.Prelude as code
 use Prim.Native.Nat.{ℕ}
 use mathlib.Core.Path.{◌≡◌, refl, ap}
 use mathlib.Core.Bool.{true, false}
@@ -20,10 +22,9 @@ use Rattle.ternary.specs.Held.{Spent, no_out, no_frame}
 use Rattle.applying.specs.Machine.{State}
 use Rattle.applying.specs.Lacks.{Lacks, no_place, all_held, Halts, limit_reached, at_use}
 use Rattle.fields.specs.Packet.{Packet, packet}
-use Rattle.running.specs.Run.{run, ran_numbers, ran_uses}
+use Rattle.running.specs.Run.{run, ran_numbers, ran_uses, not_ran}
 use Rattle.running.specs.Claims.{Fit, Checked, ReadStops, no_nodes, no_frames, later, ApplyStops, translate_nodes, translate_frames, Stops, in_translate, in_read, in_apply, in_write, Refuses, too_long, no_packet, no_rule, no_text, stops, Undid, BadRule, BadText}
 use Rattle.running.specs.declared.Ran.{Ran}
-use Rattle.running.specs.declared.Ran.TheVariants.{Refused}
 use Rattle.running.specs.declared.Stop.{Stop}
 use Rattle.running.proofs.Outcomes.{Staged}
 use Rattle.running.proofs.Outcomes as outcomes
@@ -64,23 +65,23 @@ stops_clears = stops_by (λ (e : Refusal). clears e ≡ true) (λ z v ns a. refl
 no_stage : {A : Type 0} {w s o : List ℕ} {p : Packet} {t : Term} {args : List Tree} {e : Refusal} {m : ℕ} → Stops w s o p t args e m → clears e ≡ false → A
 no_stage h k = zero_one (cc (stops_clears h))
 
-pub refuses_with : {w s o l : List ℕ} {x : Outcome Ran} {e : Refusal} → Refuses w s o l x e → x.answer ≡ Refused e
-refuses_with (too_long h q) = ap (λ (z : Outcome Ran). z.answer) q
-refuses_with (no_packet f h q) = ap (λ (z : Outcome Ran). z.answer) q
-refuses_with (no_rule f h k q) = ap (λ (z : Outcome Ran). z.answer) q
-refuses_with (no_text f h k u q) = ap (λ (z : Outcome Ran). z.answer) q
-refuses_with (stops c h k q) = ap (λ (z : Outcome Ran). z.answer) q
+pub refuses_with : {w s o l : List ℕ} {x : Outcome (Result Ran Refusal)} {e : Refusal} → Refuses w s o l x e → x.answer ≡ not_ran e
+refuses_with (too_long h q) = ap (λ (z : Outcome (Result Ran Refusal)). z.answer) q
+refuses_with (no_packet f h q) = ap (λ (z : Outcome (Result Ran Refusal)). z.answer) q
+refuses_with (no_rule f h k q) = ap (λ (z : Outcome (Result Ran Refusal)). z.answer) q
+refuses_with (no_text f h k u q) = ap (λ (z : Outcome (Result Ran Refusal)). z.answer) q
+refuses_with (stops c h k q) = ap (λ (z : Outcome (Result Ran Refusal)). z.answer) q
 
 module _ (w s o l : List ℕ) where
   -- "A refusal returns its number [..] Numbers 1 to 6 [..] leave lent memory as found. Numbers 7 to 10 set to 0 the words of the nodes made in the call
   -- and the whole stack; the out bytes stay as at entry": each refusal of Run comes only on its condition, and leaves lent memory so.
-  pub run_refused : (e : Refusal) → (run w s o l).answer ≡ Refused e → Refuses w s o l (run w s o l) e
+  pub run_refused : (e : Refusal) → (run w s o l).answer ≡ not_ran e → Refuses w s o l (run w s o l) e
   run_refused e q = go (checking w s o l)
     where
       by : {c : Refusal} → Refuses w s o l (run w s o l) c → Refuses w s o l (run w s o l) e
       by {c} r = let a : c ≡ e = cc (refuses_with r) in rw (← a) r
 
-      of_stages : {p : Packet} {t : Term} {args : List Tree} {at : Stop} → Checked w s o l p t args → Staged w s o p t args (run w s o l) at → Refuses w s o l (run w s o l) e
+      of_stages : {p : Packet} {t : Term} {args : List Tree} {at : (code.Option Stop)} → Checked w s o l p t args → Staged w s o p t args (run w s o l) at → Refuses w s o l (run w s o l) e
       of_stages c (outcomes.stops h k r i) = by (stops c h k r)
       of_stages c (outcomes.ends h r i) = zero_one (cc)
 
@@ -89,7 +90,7 @@ module _ (w s o l : List ℕ) where
       go (goes_on c) = of_stages c (run_checked c)
 
   -- "the out bytes stay as at entry"
-  pub refused_out : (e : Refusal) → (run w s o l).answer ≡ Refused e → (run w s o l).out ≡ o
+  pub refused_out : (e : Refusal) → (run w s o l).answer ≡ not_ran e → (run w s o l).out ≡ o
   refused_out e q = go (run_refused e q)
     where
       go : {c : Refusal} → Refuses w s o l (run w s o l) c → (run w s o l).out ≡ o
@@ -100,7 +101,7 @@ module _ (w s o l : List ℕ) where
       go (stops c h k r) = cc
 
   -- "Numbers 1 to 6 [..] leave lent memory as found."
-  pub refused_early : (e : Refusal) → (run w s o l).answer ≡ Refused e → clears e ≡ false → ((run w s o l).table ≡ w) × ((run w s o l).stack ≡ s)
+  pub refused_early : (e : Refusal) → (run w s o l).answer ≡ not_ran e → clears e ≡ false → ((run w s o l).table ≡ w) × ((run w s o l).stack ≡ s)
   refused_early e q = go (run_refused e q)
     where
       go : {c : Refusal} → Refuses w s o l (run w s o l) c → clears c ≡ false → ((run w s o l).table ≡ w) × ((run w s o l).stack ≡ s)
@@ -111,7 +112,7 @@ module _ (w s o l : List ℕ) where
       go (stops c h k r) n = no_stage h n
 
   -- "Numbers 7 to 10 set to 0 the words of the nodes made in the call and the whole stack"
-  pub refused_late : (e : Refusal) → (run w s o l).answer ≡ Refused e → clears e ≡ true → Undid w s o l e (run w s o l)
+  pub refused_late : (e : Refusal) → (run w s o l).answer ≡ not_ran e → clears e ≡ true → Undid w s o l e (run w s o l)
   unfolding clears number
   refused_late e q = go (run_refused e q)
     where
@@ -124,14 +125,14 @@ module _ (w s o l : List ℕ) where
           record { sent = p; term = t; args = args; checked = c; made = m; stopped = h; within = k; table = cc; stack = cc }
 
   -- Run takes "the table taken as empty", so that no node is broken and no node number is the caller's: 2 and 3 do not come.
-  pub never_broken : (run w s o l).answer ≡ Refused Broken → ⊥
+  pub never_broken : (run w s o l).answer ≡ not_ran Broken → ⊥
   unfolding clears number
   never_broken q = go (run_refused Broken q)
     where
       go : Refuses w s o l (run w s o l) Broken → ⊥
       go (stops c h k r) = no_stage h refl
 
-  pub never_node : (run w s o l).answer ≡ Refused Node → ⊥
+  pub never_node : (run w s o l).answer ≡ not_ran Node → ⊥
   unfolding clears number
   never_node q = go (run_refused Node q)
     where
@@ -139,47 +140,47 @@ module _ (w s o l : List ℕ) where
       go (stops c h k r) = no_stage h refl
 
   -- "A refusal returns its number [..] and 0 for node number, steps and digits." "On refusal used is 0."
-  pub refused_numbers_lem : (e : Refusal) → (run w s o l).answer ≡ Refused e
+  pub refused_numbers_lem : (e : Refusal) → (run w s o l).answer ≡ not_ran e
       → ran_numbers (run w s o l).answer ≡ record { refusal = number e; node = 0; used = 0; steps = 0; digits = 0 }
   unfolding ran_numbers refused_numbers
   refused_numbers_lem e q = rw q
 
   -- "all 0 on refusal" ([5])
-  pub refused_counts : (e : Refusal) → (run w s o l).answer ≡ Refused e → ran_uses (run w s o l).answer ≡ no_uses
+  pub refused_counts : (e : Refusal) → (run w s o l).answer ≡ not_ran e → ran_uses (run w s o l).answer ≡ no_uses
   unfolding ran_uses
   refused_counts e q = rw q
 
   -- "1: lengths only."
-  pub run_limits : ((run w s o l).answer ≡ Refused Limits) ↔ (Fit w s o → ⊥)
+  pub run_limits : ((run w s o l).answer ≡ not_ran Limits) ↔ (Fit w s o → ⊥)
   unfolding clears number
-  run_limits = (λ q. go (run_refused Limits q), λ h. ap (λ (x : Outcome Ran). x.answer) (run_long l h))
+  run_limits = (λ q. go (run_refused Limits q), λ h. ap (λ (x : Outcome (Result Ran Refusal)). x.answer) (run_long l h))
     where
       go : Refuses w s o l (run w s o l) Limits → Fit w s o → ⊥
       go (too_long h r) = h
       go (stops c h k r) = no_stage h refl
 
   -- "6: packet broken."
-  pub run_packet_lem : ((run w s o l).answer ≡ Refused refusal.Packet) ↔ (Fit w s o × (packet l ≡ none))
+  pub run_packet_lem : ((run w s o l).answer ≡ not_ran refusal.Packet) ↔ (Fit w s o × (packet l ≡ none))
   unfolding clears number
-  run_packet_lem = (λ q. go (run_refused refusal.Packet q), λ h. ap (λ (x : Outcome Ran). x.answer) (run_broken_packet l h.0 h.1))
+  run_packet_lem = (λ q. go (run_refused refusal.Packet q), λ h. ap (λ (x : Outcome (Result Ran Refusal)). x.answer) (run_broken_packet l h.0 h.1))
     where
       go : Refuses w s o l (run w s o l) refusal.Packet → Fit w s o × (packet l ≡ none)
       go (no_packet f h r) = (f, h)
       go (stops c h k r) = no_stage h refl
 
   -- "5: its rule."
-  pub run_rule : ((run w s o l).answer ≡ Refused Rule) ↔ BadRule w s o l
+  pub run_rule : ((run w s o l).answer ≡ not_ran Rule) ↔ BadRule w s o l
   unfolding clears number
-  run_rule = (λ q. go (run_refused Rule q), λ h. ap (λ (x : Outcome Ran). x.answer) (run_bad_rule l h.0 h.2 h.3))
+  run_rule = (λ q. go (run_refused Rule q), λ h. ap (λ (x : Outcome (Result Ran Refusal)). x.answer) (run_bad_rule l h.0 h.2 h.3))
     where
       go : Refuses w s o l (run w s o l) Rule → BadRule w s o l
       go (no_rule f {p = p} h k r) = (f, p, h, k)
       go (stops c h k r) = no_stage h refl
 
   -- "4: its arguments' texts, first to last.", and then the label's ([1])
-  pub run_text : ((run w s o l).answer ≡ Refused Text) ↔ BadText w s o l
+  pub run_text : ((run w s o l).answer ≡ not_ran Text) ↔ BadText w s o l
   unfolding clears number
-  run_text = (λ q. go (run_refused Text q), λ h. ap (λ (x : Outcome Ran). x.answer) (run_bad_text l h.0 h.2 h.4 h.5))
+  run_text = (λ q. go (run_refused Text q), λ h. ap (λ (x : Outcome (Result Ran Refusal)). x.answer) (run_bad_text l h.0 h.2 h.4 h.5))
     where
       go : Refuses w s o l (run w s o l) Text → BadText w s o l
       go (no_text f {p = p} h {t = t} k u r) = (f, p, h, t, k, u)

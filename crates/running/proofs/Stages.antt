@@ -7,6 +7,7 @@ use native.Mathlib.Omega.{arith}
 use lib.ListN.{length, length-append}
 use lib.Dec.{leb}
 use borrow.Author.Tests.{le-leb}
+use Rattle.std.specs.Prelude.{Err, None, Ok, Result}
 use Rattle.calculus.specs.Tree.{Tree}
 use Rattle.calculus.specs.declared.Uses.{Uses}
 use Rattle.calculus.specs.Uses.{no_uses, ◌⊕◌, steps}
@@ -19,30 +20,26 @@ use Rattle.calculus.proofs.Unique.{apply_unique}
 use Rattle.table.specs.Nodes.{Table, Placed, Sound, tree_at}
 use Rattle.table.specs.Outcome.{Entered, Outcome, answered, frames}
 use Rattle.table.specs.declared.Refusal.{Refusal}
-use Rattle.table.specs.declared.Made.{Made}
 use Rattle.table.specs.Claims.{Has, Kept}
+use Rattle.table.specs.declared.Made.{Made}
 use Rattle.table.proofs.Trees.{kept_refl, kept_trans, extends_trans}
 use Rattle.table.proofs.Making.{stays}
 use Rattle.ternary.specs.Read.{read, readable}
 use Rattle.table.proofs.Words.{zero_one}
 use Rattle.translation.specs.Translate.{translate}
 use Rattle.applying.specs.Machine.{wanted}
-use Rattle.applying.specs.Apply.{apply}
-use Rattle.applying.specs.Ended.{apply_ended, applied_of}
-use Rattle.applying.specs.declared.Applied.TheVariants as applied
+use Rattle.applying.specs.Apply.{apply, not_applied}
+use Rattle.applying.specs.Ended.{apply_ended, applied_of, Ended, ended_in, stopped_with}
 use Rattle.applying.specs.declared.Rule.{Rule}
-use Rattle.applying.specs.declared.Ended.{Ended}
-use Rattle.applying.specs.declared.Ended.TheVariants as ended
 use Rattle.applying.proofs.Follows.{apply_follows}
 use Rattle.applying.proofs.Told.{apply_told, halts_in, halted_ends}
 use Rattle.applying.proofs.Complete.{steps_used_up}
 use Rattle.fields.specs.Packet.{Packet}
 use Rattle.running.specs.Run.{after_made_by, after_made, after_applied, writes, applies, reads_by, reads, stages}
-use Rattle.running.specs.Tell.{told, after_ended, tell_applies, tell_stages}
+use Rattle.running.specs.Tell.{told, after_ended, tell_applies, tell_stages, at_place}
 use Rattle.running.specs.Claims.{Fit, total, nodes_by, end_table, TranslateHad, ReadsHad, all_read, and_read, ReadStops, later, Reached, at_first, and_applied, ApplyStops, Stops, in_translate, in_read, in_apply, in_write, stop_of}
-use Rattle.running.specs.declared.Ran.{Ran}
-use Rattle.running.specs.declared.Stop.TheVariants.{Nowhere, At}
 use Rattle.running.specs.declared.Told.{Told}
+use Rattle.running.specs.declared.Ran.{Ran}
 use Rattle.running.proofs.Undone.{apply_halts, reached_ends, all_stop}
 use Rattle.running.proofs.OneStage.{Stands, zeros_length, enter, Stopped, stop_here, Translating, translated, not_translated, translating, Reading, read_as, not_read, reading, Writing, written, not_written, writing}
 use Rattle.running.proofs.Outcomes.{stops, ends, Tells}
@@ -70,7 +67,7 @@ in_time after limit (and_next {a = a} x y) l n (and_next p q) =
     let h = in_time after (limit - steps a) y (omega arith) (λ h b z. omega (arith, n h b z)) (rw (← i.0) at q) in
     omega (arith, ap steps i.1)
 
-at_same : {i i' j j' : ℕ} {d d' : Rule} → i ≡ i' → j ≡ j' → d ≡ d' → At i j d ≡ At i' j' d'
+at_same : {i i' j j' : ℕ} {d d' : Rule} → i ≡ i' → j ≡ j' → d ≡ d' → at_place i j d ≡ at_place i' j' d'
 at_same p q r = rw (p, q, r)
 
 -- Run applies: the trees before were applied to with the uses k, node v has their outcome, and the nodes ns are still to be applied to.
@@ -91,7 +88,7 @@ record Applying (w s : List ℕ) (p : Packet) (t : Term) (args : List Tree) (z :
 
 module _ {w s o : List ℕ} (fit : Fit w s o) (p : Packet) (t : Term) (args : List Tree) where
   -- a stage was refused, not while applying
-  refuse : {e : Refusal} {m : ℕ} {x : Outcome Ran} (q : Stops w s o p t args e m) → Stopped w s o m e x → stop_of q ≡ Nowhere → Tells w s o p t args (told x) x
+  refuse : {e : Refusal} {m : ℕ} {x : Outcome (Result Ran Refusal)} (q : Stops w s o p t args e m) → Stopped w s o m e x → stop_of q ≡ None → Tells w s o p t args (told x) x
   refuse q x e = record { same = refl; staged = stops q x.within x.outcome (sym e) }
 
   writes_staged : {z : Table} {y : List ℕ} {v : ℕ} {k : Uses} → Applying w s p t args z y v k args []
@@ -99,7 +96,7 @@ module _ {w s o : List ℕ} (fit : Fit w s o) (p : Packet) (t : Term) (args : Li
   unfolding end_table stop_of
   writes_staged {z} {y} {v} {k} a = go (writing fit a.stands a.root k)
     where
-      x : Outcome Ran
+      x : Outcome (Result Ran Refusal)
       x = writes z.words z.used y o v k
 
       go : Writing w s o z k a.tree x → Tells w s o p t args (told x) x
@@ -155,7 +152,7 @@ module _ {w s o : List ℕ} (fit : Fit w s o) (p : Packet) (t : Term) (args : Li
             → Tells w s o p t args (tell_applies (i + 1) ns p.limit z.words z.used y o v k) (applies ns p.limit z.words z.used y o v k))
             → Tells w s o p t args (after_ended i k z.used o r (λ w' u' s' v' j. tell_applies (i + 1) ns p.limit w' u' s' o v' (k ⊕ j)) b)
             (after_applied z.used o (answered applied_of r) (λ w' u' s' v' j. applies ns p.limit w' u' s' o v' (k ⊕ j)) (applied_of b))
-        go (ended.Node v' u' l j) e on =
+        go (Ok m) e on =
             let q = apply_follows z.words z.used y v n left v' u' l j (rw (← same) (rw e)) in
             let table : r.table ≡ (apply z.words z.used y v n left).table = rw (← same) in
             let stack : r.stack ≡ (apply z.words z.used y v n left).stack = rw (← same) in
@@ -178,8 +175,8 @@ module _ {w s o : List ℕ} (fit : Fit w s o) (p : Packet) (t : Term) (args : Li
             })
             (m ∙ sym (append_assoc before (x ∷ []) xs))
             (omega (arith, length-append before (x ∷ [])))
-        go (ended.Stopped e j d) q on =
-            let refused : (apply z.words z.used y v n left).answer ≡ applied.Refused e = rw (← same) (rw q) in
+        go (Err m) q on =
+            let refused : (apply z.words z.used y v n left).answer ≡ not_applied e = rw (← same) (rw q) in
             let table : r.table ≡ (apply z.words z.used y v n left).table = rw (← same) in
             let stack : r.stack ≡ (apply z.words z.used y v n left).stack = rw (← same) in
             let b = apply_halts z.words z.used y v n left e f a.root.inside h.inside refused in
@@ -210,9 +207,9 @@ module _ {w s o : List ℕ} (fit : Fit w s o) (p : Packet) (t : Term) (args : Li
               halted = rw (← st.stack) at.1;
               ends_in = sym (rw st.stack at c) ∙ reached_ends a.reached;
               no_tree = λ c d. in_time xs p.limit a.so_far a.within_limit
-                  (λ g i f. steps_used_up z.words z.used y v n left (refused ∙ ap applied.Refused c) (rw (← a.root.tree, ← h.tree) at f)) (rw m at d);
+                  (λ g i f. steps_used_up z.words z.used y v n left (refused ∙ ap not_applied c) (rw (← a.root.tree, ← h.tree) at f)) (rw m at d);
             } in
-            let g : ended.Stopped e j d ≡ ended.Stopped e (steps at.0.uses) (wanted at.0) = sym q ∙ halted_ends z.used y at.1 in
+            let g : stopped_with e j d ≡ stopped_with e (steps at.0.uses) (wanted at.0) = sym q ∙ halted_ends z.used y at.1 in
             let m : j ≡ steps at.0.uses = cc in
             let c = stop_here st (rw (st.stack, ← table) at b.back) r.stack (zeros_length _ y (stack ∙ b.stack) ∙ st.stack) in
             record {
@@ -223,8 +220,8 @@ module _ {w s o : List ℕ} (fit : Fit w s o) (p : Packet) (t : Term) (args : Li
 
   -- each text is read: the nodes have the texts' trees, and each digit is at most one new node
   reads_staged : (ls : List (List ℕ)) (xs : List Tree) → map readable ls ≡ map some xs → {z : Table} {y : List ℕ} → Stands w s z y
-      → ((e : Refusal) (m : ℕ) → ReadStops s z ls e m → (q : Stops w s o p t args e m) × (stop_of q ≡ Nowhere))
-      → (tells : List ℕ → List ℕ → ℕ → List ℕ → Outcome Told) (next : List ℕ → List ℕ → ℕ → List ℕ → Outcome Ran)
+      → ((e : Refusal) (m : ℕ) → ReadStops s z ls e m → (q : Stops w s o p t args e m) × (stop_of q ≡ None))
+      → (tells : List ℕ → List ℕ → ℕ → List ℕ → Outcome Told) (next : List ℕ → List ℕ → ℕ → List ℕ → Outcome (Result Ran Refusal))
       → ((ns : List ℕ) (z' : Table) (y' : List ℕ) → Stands w s z' y' → Kept z z' → HasAll z' ns xs → z'.used ≤ z.used + total ls
       → ReadsHad s z ls z' ns
       → Tells w s o p t args (tells ns z'.words z'.used y') (next ns z'.words z'.used y'))
@@ -235,15 +232,15 @@ module _ {w s o : List ℕ} (fit : Fit w s o) (p : Packet) (t : Term) (args : Li
   reads_staged (l ∷ ls) [] q st stop tells next on = zero_one (cc)
   reads_staged (l ∷ ls) (x ∷ xs) q {z} {y} st stop tells next on = go (reading fit st l x is) (λ (z : Table) (y : List ℕ). reads_staged ls xs (cc) {z = z} {y = y})
     where
-      r : Rattle.table.specs.Outcome.Outcome Made
+      r : Rattle.table.specs.Outcome.Outcome (Result Made Refusal)
       r = read z.words z.used y l
 
       is : readable l ≡ some x
       is = cc
 
       go : Reading w s o z y l x
-          → ((z : Table) (y : List ℕ) → Stands w s z y → ((e : Refusal) (m : ℕ) → ReadStops s z ls e m → (q : Stops w s o p t args e m) × (stop_of q ≡ Nowhere))
-          → (tells : List ℕ → List ℕ → ℕ → List ℕ → Outcome Told) (next : List ℕ → List ℕ → ℕ → List ℕ → Outcome Ran)
+          → ((z : Table) (y : List ℕ) → Stands w s z y → ((e : Refusal) (m : ℕ) → ReadStops s z ls e m → (q : Stops w s o p t args e m) × (stop_of q ≡ None))
+          → (tells : List ℕ → List ℕ → ℕ → List ℕ → Outcome Told) (next : List ℕ → List ℕ → ℕ → List ℕ → Outcome (Result Ran Refusal))
           → ((ns : List ℕ) (z' : Table) (y' : List ℕ) → Stands w s z' y' → Kept z z' → HasAll z' ns xs → z'.used ≤ z.used + total ls
           → ReadsHad s z ls z' ns
           → Tells w s o p t args (tells ns z'.words z'.used y') (next ns z'.words z'.used y'))
@@ -266,7 +263,7 @@ module _ {w s o : List ℕ} (fit : Fit w s o) (p : Packet) (t : Term) (args : Li
   unfolding stages tell_stages after_made_by stop_of
   stages_staged q texts limited = go (translating fit p.rule t q)
     where
-      r : Rattle.table.specs.Outcome.Outcome Made
+      r : Rattle.table.specs.Outcome.Outcome (Result Made Refusal)
       r = translate w 0 s p.rule
 
       go : Translating w s o p.rule t

@@ -15,10 +15,9 @@ use Rattle.table.specs.Outcome.{Entered, frames, zeros, stopped}
 use Rattle.table.specs.declared.Refusal.{Refusal}
 use Rattle.table.specs.Claims.{Extends}
 use Rattle.table.proofs.Words.{zero_one, cleared_none, length_cleared, cleared_inside, cleared_beyond}
-use Rattle.applying.specs.declared.Applied.TheVariants.{Refused}
 use Rattle.applying.specs.Machine.{Turn, more, done, stop, uses}
 use Rattle.applying.specs.States.{table_of}
-use Rattle.applying.specs.Apply.{settle, begin, apply}
+use Rattle.applying.specs.Apply.{settle, begin, apply, not_applied}
 use Rattle.applying.specs.Lacks.{Halts, ApplyLacks, of_entry, halts}
 use Rattle.applying.proofs.States.{uses_later, uses_within}
 use Rattle.applying.proofs.Cases.{Ways, refused, ran, ways, none_lacks, good_begin}
@@ -101,7 +100,7 @@ pub record Halted (w : List ℕ) (u : ℕ) (s : List ℕ) (f n limit : ℕ) (e :
 
 -- Apply is refused after its checks only at a use that lacks something, and then "the words of the nodes made in the call and the whole stack" are 0.
 pub apply_halts : (w : List ℕ) (u : ℕ) (s : List ℕ) (f n limit : ℕ) (e : Refusal) → Entered (leb limit 1000000) w u s → f < u → n < u
-    → (apply w u s f n limit).answer ≡ Refused e → Halted w u s f n limit e (apply w u s f n limit).table (apply w u s f n limit).stack
+    → (apply w u s f n limit).answer ≡ not_applied e → Halted w u s f n limit e (apply w u s f n limit).table (apply w u s f n limit).stack
 apply_halts w u s f n limit e i h l q = go (apply_lacks w u s f n limit e q)
   where
     go : {x y : List ℕ} → ApplyLacks w u s f n limit e x y → Halted w u s f n limit e x y
@@ -128,12 +127,12 @@ reached_ends {all} {limit} (and_applied {z' = z'} {v' = v'} {n = n} {ns' = ns'} 
     rw less (sym (all_on all (limit - steps k) z' v' n ns' e) ∙ reached_ends r)
 
 pub all_stop : (w : List ℕ) (u : ℕ) (s : List ℕ) (f n limit : ℕ) (e : Refusal) → Entered (leb limit 1000000) w u s → f < u → n < u
-    → (apply w u s f n limit).answer ≡ Refused e → (ns : List ℕ)
+    → (apply w u s f n limit).answer ≡ not_applied e → (ns : List ℕ)
     → end_table (frames s) limit (record { words = w; used = u }) f (n ∷ ns) ≡ table_of (uses (frames s) limit (begin w u f n))
 unfolding end_table end_onwards settle stopped
 all_stop w u s f n limit e i h l q ns = go (ways w u s f n limit)
   where
-    by : (x : Turn) → (settle u s x).answer ≡ Refused e → end_onwards (λ p j. end_table (frames s) (limit - steps j) p.table p.node ns) x ≡ table_of x
+    by : (x : Turn) → (settle u s x).answer ≡ not_applied e → end_onwards (λ p j. end_table (frames s) (limit - steps j) p.table p.node ns) x ≡ table_of x
     by (more z) r = refl
     by (done p j) r = zero_one (cc)
     by (stop c z) r = refl

@@ -1,6 +1,7 @@
 -- What is claimed of Run: where it is refused, what it lacked and which words it cleared; where it writes a text, which, with which uses and with how
 -- many nodes (Operations, Run). Assumes nothing: these are definitions.
-use Rattle.std.specs.Prelude.{ℕ, ◌+◌, ◌-◌, ◌*◌, ◌≤◌, ◌<◌, ◌≡◌, List, [], ◌∷◌, ◌++◌, map, ◌⊎◌, length, take, drop, get_or}
+use Rattle.std.specs.Prelude as code
+use Rattle.std.specs.Prelude.{ℕ, ◌+◌, ◌-◌, ◌*◌, ◌≤◌, ◌<◌, ◌≡◌, List, [], ◌∷◌, ◌++◌, map, ◌⊎◌, length, take, drop, get_or, None, Result}
 use Rattle.std.proofs.Math.Option.{Option, none, some}
 use Rattle.calculus.specs.Tree.{Tree, size}
 use Rattle.calculus.specs.declared.Uses.{Uses}
@@ -26,11 +27,10 @@ use Rattle.applying.specs.Apply.{begin}
 use Rattle.applying.specs.Ended.{Halted}
 use Rattle.applying.specs.Lacks.{Halts}
 use Rattle.fields.specs.Packet.{Packet, packet}
-use Rattle.running.specs.Run.{texts, run, ran_numbers, ran_uses}
+use Rattle.running.specs.Run.{texts, run, ran_numbers, ran_uses, not_ran, ran}
+use Rattle.running.specs.Tell.{at_place}
 use Rattle.running.specs.declared.Ran.{Ran}
-use Rattle.running.specs.declared.Ran.TheVariants.{Text, Refused}
 use Rattle.running.specs.declared.Stop.{Stop}
-use Rattle.running.specs.declared.Stop.TheVariants.{Nowhere, At}
 
 -- "1: lengths only.": what holds where it is not met
 pub record Fit (w s o : List ℕ) : Type 0 where
@@ -155,27 +155,27 @@ pub data Stops (w s o : List ℕ) (p : Packet) (t : Term) (args : List Tree) : R
 
 -- Where a stage stops: "for a stop while applying [..] the argument's place (1 to 8), the steps taken in the whole run and which of the five rules was
 -- wanted. [..] For every other outcome it gives Run's number alone." ([14])
-unfoldable pub stop_of : {w s o : List ℕ} {p : Packet} {t : Term} {args : List Tree} {e : Refusal} {m : ℕ} → Stops w s o p t args e m → Stop
-stop_of (in_translate h) = Nowhere
-stop_of (in_read h r) = Nowhere
-stop_of (in_apply h r x i) = At (length x.before + 1) (steps x.k + steps x.state.uses) (wanted x.state)
-stop_of (in_write h r x l y i j) = Nowhere
+unfoldable pub stop_of : {w s o : List ℕ} {p : Packet} {t : Term} {args : List Tree} {e : Refusal} {m : ℕ} → Stops w s o p t args e m → (code.Option Stop)
+stop_of (in_translate h) = None
+stop_of (in_read h r) = None
+stop_of (in_apply h r x i) = at_place (length x.before + 1) (steps x.k + steps x.state.uses) (wanted x.state)
+stop_of (in_write h r x l y i j) = None
 
 -- What was not so where Run refuses with e, and the whole outcome x: "1: lengths only. 6: packet broken. 5: its rule. 4: its arguments' texts, first to
 -- last.", and then the label's ([1]). These "leave lent memory as found". Then a stage stops with 7 to 10: the words of the m nodes made since Run's entry
 -- are 0 and all others as found, the stack is 0, and "the out bytes stay as at entry".
-pub data Refuses (w s o l : List ℕ) (x : Outcome Ran) : Refusal → Type 0 where
-  too_long : (Fit w s o → ⊥) → x ≡ whole_out (Refused Limits) w s o → Refuses w s o l x Limits
-  no_packet : Fit w s o → packet l ≡ none → x ≡ whole_out (Refused refusal.Packet) w s o → Refuses w s o l x refusal.Packet
-  no_rule : Fit w s o → {p : Packet} → packet l ≡ some p → rule p.rule ≡ none → x ≡ whole_out (Refused Rule) w s o → Refuses w s o l x Rule
+pub data Refuses (w s o l : List ℕ) (x : Outcome (Result Ran Refusal)) : Refusal → Type 0 where
+  too_long : (Fit w s o → ⊥) → x ≡ whole_out (not_ran Limits) w s o → Refuses w s o l x Limits
+  no_packet : Fit w s o → packet l ≡ none → x ≡ whole_out (not_ran refusal.Packet) w s o → Refuses w s o l x refusal.Packet
+  no_rule : Fit w s o → {p : Packet} → packet l ≡ some p → rule p.rule ≡ none → x ≡ whole_out (not_ran Rule) w s o → Refuses w s o l x Rule
   no_text : Fit w s o → {p : Packet} → packet l ≡ some p → {t : Term} → rule p.rule ≡ some t → Unreadable (texts p)
-      → x ≡ whole_out (Refused refusal.Text) w s o → Refuses w s o l x refusal.Text
+      → x ≡ whole_out (not_ran refusal.Text) w s o → Refuses w s o l x refusal.Text
   stops : {p : Packet} {t : Term} {args : List Tree} → Checked w s o l p t args → {e : Refusal} {m : ℕ} → Stops w s o p t args e m → m ≤ capacity w
-      → x ≡ whole_out (Refused e) (cleared w 0 (m * 2)) (zeros s) o → Refuses w s o l x e
+      → x ≡ whole_out (not_ran e) (cleared w 0 (m * 2)) (zeros s) o → Refuses w s o l x e
 
 -- What a Run that is refused with 7 to 10 leaves of the table w and the stack s. Run takes the table as empty, so the nodes made are 0 to `made` − 1, as
 -- many as the stage that stopped says.
-pub record Undid (w s o l : List ℕ) (e : Refusal) (x : Outcome Ran) : Type 0 where
+pub record Undid (w s o l : List ℕ) (e : Refusal) (x : Outcome (Result Ran Refusal)) : Type 0 where
   pub sent : Packet
   pub term : Term
   pub args : List Tree
@@ -259,4 +259,4 @@ pub data TooFew : Refusal → Type 0 where
 -- Run's answer is the text of r after the uses k, or 8, 9 or 10
 abbrev pub Writes : List ℕ → List ℕ → List ℕ → List ℕ → Tree → Uses → Type 0
 Writes w s o l r k =
-    ((u : ℕ) × ((run w s o l).answer ≡ Text (steps k) u (length (text r)) k)) ⊎ ((e : Refusal) × TooFew e × ((run w s o l).answer ≡ Refused e))
+    ((u : ℕ) × ((run w s o l).answer ≡ ran (steps k) u (length (text r)) k)) ⊎ ((e : Refusal) × TooFew e × ((run w s o l).answer ≡ not_ran e))

@@ -6,32 +6,26 @@ use applying::Rule;
 use calculus::Uses;
 use table::Refusal;
 
-// The answer of Run, and of `label_packet`: the steps, the count of used nodes, how many digits were written, and the uses of each rule.
+// What Run and `label_packet` give: the steps, the count of used nodes, how many digits were written, and the uses of each rule.
 #[derive(Clone, Copy)]
-pub enum Ran {
-    Text {
-        steps: usize,
-        used: usize,
-        digits: usize,
-        uses: Uses,
-    },
-    Refused(Refusal),
+pub struct Ran {
+    pub steps: usize,
+    pub used: usize,
+    pub digits: usize,
+    pub uses: Uses,
 }
 
-// Where applying stopped, if it did: the argument's place from 1, the steps of the whole run, and the rule that was wanted.
+// Where applying stopped: the argument's place from 1, the steps of the whole run, and the rule that was wanted.
 #[derive(Clone, Copy)]
-pub enum Stop {
-    Nowhere,
-    At {
-        place: usize,
-        steps: usize,
-        rule: Rule,
-    },
+pub struct Stop {
+    pub place: usize,
+    pub steps: usize,
+    pub rule: Rule,
 }
 
-// Run's answer, and where applying stopped.
+// Run's answer, and where applying stopped, if it did.
 #[derive(Clone, Copy)]
 pub struct Told {
-    pub ran: Ran,
-    pub stop: Stop,
+    pub ran: Result<Ran, Refusal>,
+    pub stop: Option<Stop>,
 }

@@ -12,11 +12,9 @@ use borrow.Author.Tests.{lt-ltb, le-ltb, ltb-true, ltb-false, leb-true, leb-fals
 use Rattle.calculus.specs.Tree.{Tree}
 use Rattle.table.specs.Nodes.{tree_at}
 use Rattle.table.specs.Outcome.{Outcome, whole_out, into_out, at_entry, unless}
-use Rattle.table.specs.Refusal.{given_by}
+use Rattle.table.specs.Refusal.{given_by, Given, given, not_given, nothing}
 use Rattle.table.specs.declared.Refusal.{Refusal}
 use Rattle.table.specs.declared.Refusal.TheVariants.{Node, Out}
-use Rattle.table.specs.declared.Given.{Given}
-use Rattle.table.specs.declared.Given.TheVariants.{Number, Nothing, Refused}
 use Rattle.table.proofs.Entry.{entry_lacks, lacks_entry}
 use Rattle.table.proofs.Words.{zero_one}
 use Rattle.table.proofs.Wrote.{into_short, into_written}
@@ -34,7 +32,7 @@ module _ (w : List ℕ) (u v : ℕ) where
   unfolding code given_by
   code_case = go (at_entry true w u []) (ltb v u) (code_of (tree_at w v)) refl refl refl
     where
-      go : (o : Option Refusal) (x : Bool) (y : Option ℕ) → at_entry true w u [] ≡ o → ltb v u ≡ x → code_of (tree_at w v) ≡ y → Coded w u v (unless o Refused (cond x (given_by y) (Refused Node)))
+      go : (o : Option Refusal) (x : Bool) (y : Option ℕ) → at_entry true w u [] ≡ o → ltb v u ≡ x → code_of (tree_at w v) ≡ y → Coded w u v (unless o not_given (cond x (given_by y) (not_given Node)))
       go (some e) x y p q r = of_entry (entry_lacks true w u [] p)
       go none false y p q r = not_in_use p (ltb-false v u q)
       go none true none p q r = too_many (record { entered = p; in_use = ltb-true v u q }) (omega (arith, length_text (tree_at w v), (none_exactly (tree_at w v)).0 r))
@@ -52,23 +50,23 @@ module _ (w : List ℕ) (u v : ℕ) where
   code_exactly a = (λ e. subst (Coded w u v) e code_case, code_gives)
 
 module _ (c : ℕ) (out : List ℕ) where
-  pub no_code_text : 1374 ≤ c → code_text c out ≡ whole_out Nothing [] [] out
+  pub no_code_text : 1374 ≤ c → code_text c out ≡ whole_out nothing [] [] out
   unfolding code_text
   no_code_text h = rw (le-ltb c 1374 h)
 
-  pub code_into : c < 1374 → code_text c out ≡ into_out Number Refused (numeral (get_or values c 0)) out
+  pub code_into : c < 1374 → code_text c out ≡ into_out given not_given (numeral (get_or values c 0)) out
   unfolding code_text
   code_into h = rw (lt-ltb c 1374 h)
 
   -- the same by the tree whose code it is
-  text_of : {t : Tree} → IsCode t c → code_text c out ≡ into_out Number Refused (text t) out
-  text_of i = code_into (code_below i) ∙ ap (λ (l : List ℕ). into_out Number Refused l out) (code_numeral i)
+  text_of : {t : Tree} → IsCode t c → code_text c out ≡ into_out given not_given (text t) out
+  text_of i = code_into (code_below i) ∙ ap (λ (l : List ℕ). into_out given not_given l out) (code_numeral i)
 
-  text_short : {t : Tree} → IsCode t c → length out < length (text t) → code_text c out ≡ whole_out (Refused Out) [] [] out
-  text_short {t} i h = text_of i ∙ into_short Number Refused (text t) out h
+  text_short : {t : Tree} → IsCode t c → length out < length (text t) → code_text c out ≡ whole_out (not_given Out) [] [] out
+  text_short {t} i h = text_of i ∙ into_short given not_given (text t) out h
 
-  text_written : {t : Tree} → IsCode t c → length (text t) ≤ length out → code_text c out ≡ whole_out (Number (length (text t))) [] [] (text t ++ drop (length (text t)) out)
-  text_written {t} i h = text_of i ∙ into_written Number Refused (text t) out h
+  text_written : {t : Tree} → IsCode t c → length (text t) ≤ length out → code_text c out ≡ whole_out (given (length (text t))) [] [] (text t ++ drop (length (text t)) out)
+  text_written {t} i h = text_of i ∙ into_written given not_given (text t) out h
 
   text_case : CodeTexts c out (code_text c out)
   text_case = go (ltb c 1374) refl
@@ -91,11 +89,11 @@ module _ (c : ℕ) (out : List ℕ) where
       only (written i k e) = text_written i k ∙ sym e
 
 -- The text of a tree's code is the tree's text: what `code` gives of a node is given back as the text of that node's tree, where out has room for it.
-pub code_then_text : (w : List ℕ) (u v c : ℕ) (out : List ℕ) → code w u v ≡ Number c → length (text (tree_at w v)) ≤ length out
-    → code_text c out ≡ whole_out (Number (length (text (tree_at w v)))) [] [] (text (tree_at w v) ++ drop (length (text (tree_at w v))) out)
-code_then_text w u v c out e h = go ((code_exactly w u v (Number c)).0 e) refl
+pub code_then_text : (w : List ℕ) (u v c : ℕ) (out : List ℕ) → code w u v ≡ given c → length (text (tree_at w v)) ≤ length out
+    → code_text c out ≡ whole_out (given (length (text (tree_at w v)))) [] [] (text (tree_at w v) ++ drop (length (text (tree_at w v))) out)
+code_then_text w u v c out e h = go ((code_exactly w u v (given c)).0 e) refl
   where
-    go : {a : Given} → Coded w u v a → a ≡ Number c → code_text c out ≡ whole_out (Number (length (text (tree_at w v)))) [] [] (text (tree_at w v) ++ drop (length (text (tree_at w v))) out)
+    go : {a : Given} → Coded w u v a → a ≡ given c → code_text c out ≡ whole_out (given (length (text (tree_at w v)))) [] [] (text (tree_at w v) ++ drop (length (text (tree_at w v))) out)
     go (of_entry l) q = zero_one (cc)
     go (not_in_use p k) q = zero_one (cc)
     go (too_many k m) q = zero_one (cc)

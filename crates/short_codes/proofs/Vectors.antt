@@ -6,7 +6,7 @@ use lib.ListN.{get_or, replicate}
 use Rattle.calculus.specs.Tree.{Tree, leaf, stem, fork}
 use Rattle.table.specs.Outcome.{whole_out, into_out}
 use Rattle.table.specs.declared.Refusal.TheVariants.{Out}
-use Rattle.table.specs.declared.Given.TheVariants.{Number, Nothing, Refused}
+use Rattle.table.specs.Refusal.{given, not_given, nothing}
 use Rattle.ternary.specs.Text.{text}
 use Rattle.short_codes.specs.Values.{value_after, value_from, value, values_from, values_to, values, numeral_to, numeral}
 use Rattle.short_codes.specs.ShortCodes.{place_from, code_of, code_text}
@@ -32,8 +32,8 @@ unfolding code_of place_from value value_from value_after text values values_to 
 last_code = (refl, refl, refl)
 
 -- its text needs ten bytes; 1,374 is no code, whatever out is
-pub last_text : (code_text 1373 (replicate 9 7) ≡ whole_out (Refused Out) [] [] (replicate 9 7))
-    × (code_text 1373 (replicate 11 7) ≡ whole_out (Number 10) [] [] (50 ∷ 50 ∷ 50 ∷ 50 ∷ 49 ∷ 48 ∷ 48 ∷ 48 ∷ 48 ∷ 48 ∷ 7 ∷ []))
-    × (code_text 1374 [] ≡ whole_out Nothing [] [] [])
+pub last_text : (code_text 1373 (replicate 9 7) ≡ whole_out (not_given Out) [] [] (replicate 9 7))
+    × (code_text 1373 (replicate 11 7) ≡ whole_out (given 10) [] [] (50 ∷ 50 ∷ 50 ∷ 50 ∷ 49 ∷ 48 ∷ 48 ∷ 48 ∷ 48 ∷ 48 ∷ 7 ∷ []))
+    × (code_text 1374 [] ≡ whole_out nothing [] [] [])
 unfolding code_text into_out numeral numeral_to values values_to values_from value_after
 last_text = (refl, refl, refl)

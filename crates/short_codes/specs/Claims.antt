@@ -10,8 +10,7 @@ use Rattle.table.specs.Claims.{EntryLacks}
 use Rattle.table.specs.Ascending.{NumbersAscend}
 use Rattle.table.specs.declared.Refusal.{Refusal}
 use Rattle.table.specs.declared.Refusal.TheVariants.{Node, Out}
-use Rattle.table.specs.declared.Given.{Given}
-use Rattle.table.specs.declared.Given.TheVariants.{Number, Nothing, Refused}
+use Rattle.table.specs.Refusal.{Given, given, not_given, nothing}
 use Rattle.ternary.specs.Text.{text}
 use Rattle.short_codes.specs.Values.{value}
 
@@ -46,15 +45,15 @@ pub record Askable (w : List ℕ) (u v : ℕ) : Type 0 where
 
 -- Each answer with its condition: "the code of a node's tree (after 1, 2 and 3), or none exactly when its text has more than ten digits" ([12])
 pub data Coded (w : List ℕ) (u v : ℕ) : Given → Type 0 where
-  of_entry : {e : Refusal} → EntryLacks true w u [] e → Coded w u v (Refused e)
-  not_in_use : at_entry true w u [] ≡ none → u ≤ v → Coded w u v (Refused Node)
-  too_many : Askable w u v → 10 < length (text (tree_at w v)) → Coded w u v Nothing
-  coded : Askable w u v → {c : ℕ} → IsCode (tree_at w v) c → Coded w u v (Number c)
+  of_entry : {e : Refusal} → EntryLacks true w u [] e → Coded w u v (not_given e)
+  not_in_use : at_entry true w u [] ≡ none → u ≤ v → Coded w u v (not_given Node)
+  too_many : Askable w u v → 10 < length (text (tree_at w v)) → Coded w u v nothing
+  coded : Askable w u v → {c : ℕ} → IsCode (tree_at w v) c → Coded w u v (given c)
 
 -- Each outcome o with its condition: "a code's text, or none from 1,374 on, then 10 if out is shorter" ([12]), on which
 -- "the out bytes stay as at entry" (document 01, Operations); "out bytes past what is written stay" ([3]).
 pub data CodeTexts (c : ℕ) (out : List ℕ) (o : Outcome Given) : Type 0 where
-  no_code : 1374 ≤ c → o ≡ whole_out Nothing [] [] out → CodeTexts c out o
-  no_room : {t : Tree} → IsCode t c → length out < length (text t) → o ≡ whole_out (Refused Out) [] [] out → CodeTexts c out o
+  no_code : 1374 ≤ c → o ≡ whole_out nothing [] [] out → CodeTexts c out o
+  no_room : {t : Tree} → IsCode t c → length out < length (text t) → o ≡ whole_out (not_given Out) [] [] out → CodeTexts c out o
   written : {t : Tree} → IsCode t c → length (text t) ≤ length out
-      → o ≡ whole_out (Number (length (text t))) [] [] (text t ++ drop (length (text t)) out) → CodeTexts c out o
+      → o ≡ whole_out (given (length (text t))) [] [] (text t ++ drop (length (text t)) out) → CodeTexts c out o

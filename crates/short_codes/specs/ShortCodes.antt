@@ -4,10 +4,8 @@ use Rattle.std.proofs.Math.Option.{Option, none, some}
 use Rattle.calculus.specs.Tree.{Tree}
 use Rattle.table.specs.Nodes.{tree_at}
 use Rattle.table.specs.Outcome.{Outcome, whole_out, into_out, at_entry, unless}
-use Rattle.table.specs.Refusal.{given_by}
+use Rattle.table.specs.Refusal.{given_by, Given, given, not_given, nothing}
 use Rattle.table.specs.declared.Refusal.TheVariants.{Node}
-use Rattle.table.specs.declared.Given.{Given}
-use Rattle.table.specs.declared.Given.TheVariants.{Number, Nothing, Refused}
 use Rattle.ternary.specs.Text.{text}
 use Rattle.short_codes.specs.Values.{value, values, numeral}
 
@@ -22,8 +20,8 @@ code_of t = place_from 0 (value (text t)) values
 
 -- "The library gives the code of a node's tree (after 1, 2 and 3), or none" ([12]): of node v of the table w with u nodes in use. There is no stack.
 unfoldable pub code : List ℕ → ℕ → ℕ → Given
-code w u v = unless (at_entry true w u []) Refused (cond (ltb v u) (given_by (code_of (tree_at w v))) (Refused Node))
+code w u v = unless (at_entry true w u []) not_given (cond (ltb v u) (given_by (code_of (tree_at w v))) (not_given Node))
 
 -- "and a code's text, or none from 1,374 on, then 10 if out is shorter" ([12])
 unfoldable pub code_text : ℕ → List ℕ → Outcome Given
-code_text c out = cond (ltb c 1374) (into_out Number Refused (numeral (get_or values c 0)) out) (whole_out Nothing [] [] out)
+code_text c out = cond (ltb c 1374) (into_out given not_given (numeral (get_or values c 0)) out) (whole_out nothing [] [] out)

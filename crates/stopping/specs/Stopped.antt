@@ -1,14 +1,15 @@
 -- What `stopped` gives ([14]). Assumes nothing: these are definitions.
-use Rattle.std.specs.Prelude.{ℕ, List, [], ◌∷◌}
+use Rattle.std.specs.Prelude as code
+use Rattle.std.specs.Prelude.{ℕ, List, [], ◌∷◌, Err, None, Ok, Result, Some}
 use Rattle.table.specs.Outcome.{Outcome, answered}
 use Rattle.table.specs.Refusal.{number}
+use Rattle.table.specs.declared.Refusal.{Refusal}
 use Rattle.applying.specs.declared.Rule.{Rule}
 use Rattle.applying.specs.declared.Rule.TheVariants as rule
+use Rattle.running.specs.Tell.{tell, at_place}
+use Rattle.running.specs.Run.{not_ran, ran}
 use Rattle.running.specs.declared.Ran.{Ran}
-use Rattle.running.specs.declared.Ran.TheVariants as ran
 use Rattle.running.specs.declared.Stop.{Stop}
-use Rattle.running.specs.declared.Stop.TheVariants.{Nowhere, At}
-use Rattle.running.specs.Tell.{tell}
 use Rattle.stopping.specs.declared.Kind.{Kind}
 use Rattle.stopping.specs.declared.Kind.TheVariants.{Leaf, Stem, Drop, Spread, Triage}
 use Rattle.stopping.specs.declared.Stopped.{Stopped}
@@ -24,10 +25,10 @@ kind (rule.Triage p q) = Triage
 
 -- "for a stop while applying, gives Run's number, the argument's place (1 to 8), the steps taken in the whole run and which of the five rules was wanted.
 -- [..] For every other outcome it gives Run's number alone."
-unfoldable pub stop_by : Ran → Stop → Stopped
-stop_by (ran.Refused e) (At i j d) = Applying e i j (kind d)
-stop_by (ran.Refused e) Nowhere = Refused e
-stop_by (ran.Text j u n k) p = Completed
+unfoldable pub stop_by : (Result Ran Refusal) → (code.Option Stop) → Stopped
+stop_by (Err e) (Some m) = Applying e m.place m.steps (kind m.rule)
+stop_by (Err e) None = Refused e
+stop_by (Ok m) p = Completed
 
 -- "A tool runs a packet alone": as Run does, and with what it leaves of lent memory
 unfoldable pub stopped : List ℕ → List ℕ → List ℕ → List ℕ → Outcome Stopped

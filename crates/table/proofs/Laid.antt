@@ -13,28 +13,25 @@ use Rattle.table.specs.Outcome.{Outcome, whole, frames, zeros, stopped, placed, 
 use Rattle.table.specs.declared.Refusal.{Refusal}
 use Rattle.table.specs.declared.Refusal.TheVariants.{Nodes, Frames}
 use Rattle.table.specs.declared.Made.{Made}
-use Rattle.table.specs.Refusal.{made, no_node}
+use Rattle.table.specs.Refusal.{made, not_made}
 use Rattle.table.specs.Claims.{Places, Lays, Room, Filled}
 use Rattle.table.specs.Claims.Room.{no_nodes, no_frames, enough}
 use Rattle.table.proofs.Words.{zero_one, cleared_none}
 use Rattle.table.proofs.Making.{lay_places, lay_most}
 use Rattle.table.proofs.Entry.{cleared_back}
 
--- two answers that are equal give the same node and the same count
-node_in : Result Made Refusal → ℕ
-node_in (Ok m) = m.node
-node_in (Err e) = 0
+-- two answers that are equal give the same
+pub same_ok : {A E : Type 0} {x y : A} → ◌≡◌ {A = Result A E} (Ok x) (Ok y) → x ≡ y
+same_ok q = cc
 
-used_in : Result Made Refusal → ℕ
-used_in (Ok m) = m.used
-used_in (Err e) = 0
+pub same_err : {A E : Type 0} {x y : E} → ◌≡◌ {A = Result A E} (Err x) (Err y) → x ≡ y
+same_err q = cc
 
 pub made_is : {n u v w : ℕ} → made n u ≡ made v w → (n ≡ v) × (u ≡ w)
-unfolding node_in used_in
-made_is q = (ap node_in q, ap used_in q)
+made_is q = let p = same_ok q in (ap (λ (m : Made). m.node) p, ap (λ (m : Made). m.used) p)
 
 -- no refusal is a node
-pub refused_made : {A : Type 0} {e : Refusal} {v u : ℕ} → no_node e ≡ made v u → A
+pub refused_made : {A : Type 0} {e : Refusal} {v u : ℕ} → not_made e ≡ made v u → A
 refused_made q = zero_one (cc)
 
 -- what is placed answers the node and the count
@@ -72,10 +69,10 @@ placed_gives w u s x v u' {m} {o} f l q e =
 
 -- "the words of the nodes made in the call" where a table became full: all from the first new node to the capacity
 pub full_outcome : (w : List ℕ) (u : ℕ) (s : List ℕ) {z : Table} → Filled (record { words = w; used = u }) z
-    → stopped (no_node Nodes) z u s ≡ whole (no_node Nodes) (cleared w (u * 2) (capacity w * 2)) (zeros s)
+    → stopped (not_made Nodes) z u s ≡ whole (not_made Nodes) (cleared w (u * 2) (capacity w * 2)) (zeros s)
 unfolding stopped
 full_outcome w u s {z} f =
-    ap (λ (k : List ℕ). whole (no_node Nodes) k (zeros s))
+    ap (λ (k : List ℕ). whole (not_made Nodes) k (zeros s))
     (cleared_back f.extends f.fine.within ∙ ap (λ (k : ℕ). cleared w (u * 2) (k * 2)) f.all_used)
 
 -- the two kinds of a tree laid out
@@ -83,13 +80,13 @@ pub laid_got : (w : List ℕ) (u : ℕ) (s : List ℕ) (x : Tree) {m : Placed} �
 unfolding laid settled
 laid_got w u s x e = rw e
 
-pub laid_full : (w : List ℕ) (u : ℕ) (s : List ℕ) (x : Tree) {z : Table} → lay (record { words = w; used = u }) x ≡ full z → laid w u s x ≡ stopped (no_node Nodes) z u s
+pub laid_full : (w : List ℕ) (u : ℕ) (s : List ℕ) (x : Tree) {z : Table} → lay (record { words = w; used = u }) x ≡ full z → laid w u s x ≡ stopped (not_made Nodes) z u s
 unfolding laid settled
 laid_full w u s x e = rw e
 
 module _ (w : List ℕ) (u : ℕ) (s : List ℕ) (held : ℕ) (x : Tree) where
   -- a refusal for want of frames: nothing was made, so the table is as found
-  pub frames_refused : frames s < held → whole (no_node Frames) w (zeros s) ≡ laid_within w u s held x
+  pub frames_refused : frames s < held → whole (not_made Frames) w (zeros s) ≡ laid_within w u s held x
   unfolding laid_within stopped
   frames_refused q = rw (lt-ltb (frames s) held q, cleared_none w (u * 2))
 

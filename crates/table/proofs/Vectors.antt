@@ -9,7 +9,7 @@ use Rattle.std.specs.Prelude.{Some, None, Ok, Err}
 use Rattle.calculus.specs.Tree.{leaf, stem, fork}
 use Rattle.table.specs.Nodes.{got, full, broken, has_words, find, is_none, sound, new_node, or_new, make, and_then, lay}
 use Rattle.table.specs.Outcome.{whole_out, into_out}
-use Rattle.table.specs.Refusal.{number, refused_numbers, made, no_node, made_numbers, given_numbers, clears}
+use Rattle.table.specs.Refusal.{number, refused_numbers, made, not_made, made_numbers, given_numbers, clears}
 use Rattle.table.specs.Same.{same_numbers}
 use Rattle.table.specs.declared.Refusal.TheVariants.{Limits, Broken, Node, Text, Rule, Packet, Steps, Nodes, Frames, Out, Label, RuleText, Week, Weight}
 
@@ -26,7 +26,7 @@ unfolding clears number
 clearing = refl
 
 -- "A refusal returns its number, used as at entry, and 0 for node number, steps and digits."
-pub answers : (made_numbers 5 (no_node Nodes) ≡ record { refusal = 8; node = 0; used = 5; steps = 0; digits = 0 })
+pub answers : (made_numbers 5 (not_made Nodes) ≡ record { refusal = 8; node = 0; used = 5; steps = 0; digits = 0 })
     × (made_numbers 5 (made 6 7) ≡ record { refusal = 0; node = 6; used = 7; steps = 0; digits = 0 })
 unfolding made_numbers refused_numbers number
 answers = (refl, refl)

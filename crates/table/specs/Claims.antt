@@ -4,7 +4,7 @@ use Rattle.std.proofs.Math.Option.{none, some}
 use Rattle.calculus.specs.Tree.{Tree, leaf, stem, fork, size}
 use Rattle.table.specs.Nodes.{Table, Placed, Making, got, full, capacity, first, second, broken, find, Sound, tree_at, new_node, lay}
 use Rattle.table.specs.Outcome.{Outcome, whole, frames, zeros, fits, stopped, placed}
-use Rattle.table.specs.Refusal.{no_node}
+use Rattle.table.specs.Refusal.{not_made}
 use Rattle.table.specs.declared.Refusal.{Refusal}
 use Rattle.table.specs.declared.Refusal.TheVariants.{Limits, Broken, Nodes, Frames}
 use Rattle.table.specs.declared.Made.{Made}
@@ -92,8 +92,8 @@ pub record Lays (w : List ℕ) (u : ℕ) (x : Tree) (o : Outcome (Result Made Re
 -- "Read, Translate and Label meet it while making nodes, after 9 where there is one." ([8]): the outcome o where a tree x that takes so many frames is to
 -- be laid out. 9 and 8 come only on their conditions; 9 leaves the table as found.
 pub data Room (w : List ℕ) (u : ℕ) (s : List ℕ) (held : ℕ) (x : Tree) (o : Outcome (Result Made Refusal)) : Type 0 where
-  no_frames : frames s < held → o ≡ whole (no_node Frames) w (zeros s) → Room w u s held x o
-  no_nodes : held ≤ frames s → {z : Table} → lay (record { words = w; used = u }) x ≡ full z → o ≡ stopped (no_node Nodes) z u s → Room w u s held x o
+  no_frames : frames s < held → o ≡ whole (not_made Frames) w (zeros s) → Room w u s held x o
+  no_nodes : held ≤ frames s → {z : Table} → lay (record { words = w; used = u }) x ≡ full z → o ≡ stopped (not_made Nodes) z u s → Room w u s held x o
   enough : held ≤ frames s → {m : Placed} → lay (record { words = w; used = u }) x ≡ got m → o ≡ placed m s → Room w u s held x o
 
 -- "Numbers 7 to 10 set to 0 the words of the nodes made in the call and the whole stack": of a table that was t and stopped as z, every other word

@@ -4,7 +4,7 @@ use Rattle.std.specs.Prelude.{ℕ, ◌*◌, ◌/◌, ◌≤◌, ◌≡◌, Bool,
 use Rattle.std.proofs.Math.Option.{Option, none, some}
 use Rattle.calculus.specs.Tree.{Tree}
 use Rattle.table.specs.Nodes.{Table, Placed, Making, got, full, capacity, sound, Sound, lay, cleared}
-use Rattle.table.specs.Refusal.{made, no_node}
+use Rattle.table.specs.Refusal.{made, not_made}
 use Rattle.table.specs.declared.Refusal.{Refusal}
 use Rattle.table.specs.declared.Refusal.TheVariants.{Limits, Broken, Nodes, Frames, Out}
 use Rattle.table.specs.declared.Made.{Made}
@@ -72,7 +72,7 @@ placed p s = whole (made p.node p.table.used) p.table.words (zeros s)
 -- "Read, Translate and Label meet it while making nodes" ([8]): where a node has no place, those made since u were in use are cleared
 unfoldable pub settled : ℕ → List ℕ → Making → Outcome (Result Made Refusal)
 settled u s (got p) = placed p s
-settled u s (full t) = stopped (no_node Nodes) t u s
+settled u s (full t) = stopped (not_made Nodes) t u s
 
 -- a tree laid out, as Read and Translate do
 unfoldable pub laid : List ℕ → ℕ → List ℕ → Tree → Outcome (Result Made Refusal)
@@ -80,4 +80,4 @@ laid w u s t = settled u s (lay (record { words = w; used = u }) t)
 
 -- "after 9 where there is one" ([8]): 9 before a node is made, where a tree takes so many frames, then the tree laid out
 unfoldable pub laid_within : List ℕ → ℕ → List ℕ → ℕ → Tree → Outcome (Result Made Refusal)
-laid_within w u s held t = cond (ltb (frames s) held) (stopped (no_node Frames) (record { words = w; used = u }) u s) (laid w u s t)
+laid_within w u s held t = cond (ltb (frames s) held) (stopped (not_made Frames) (record { words = w; used = u }) u s) (laid w u s t)

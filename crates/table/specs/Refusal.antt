@@ -40,21 +40,34 @@ abbrev pub made : ℕ → ℕ → Result Made Refusal
 made n u = Ok (record { node = n; used = u })
 
 -- the answer of the same operation that refuses
-abbrev pub no_node : Refusal → Result Made Refusal
-no_node e = Err e
+abbrev pub not_made : Refusal → Result Made Refusal
+not_made e = Err e
 
 -- the numbers of Read's, Translate's and Label's answer, with `used` as at entry
 unfoldable pub made_numbers : ℕ → Result Made Refusal → Numbers
 made_numbers used (Ok m) = record { refusal = 0; node = m.node; used = m.used; steps = 0; digits = 0 }
 made_numbers used (Err e) = refused_numbers used e
 
+-- the answer of an operation that gives a number or none, or refuses
+abbrev pub Given : Type 0
+Given = Result (code.Option ℕ) Refusal
+
+abbrev pub given : ℕ → Given
+given n = Ok (Some n)
+
+abbrev pub nothing : Given
+nothing = Ok None
+
+abbrev pub not_given : Refusal → Given
+not_given e = Err e
+
 -- a number, "or none", as an answer
-unfoldable pub given_by : Option ℕ → Result (code.Option ℕ) Refusal
-given_by (some n) = Ok (Some n)
-given_by none = Ok None
+unfoldable pub given_by : Option ℕ → Given
+given_by (some n) = given n
+given_by none = nothing
 
 -- the numbers of such an answer: the refusal, 1 if there is a number, and the number
-unfoldable pub given_numbers : Result (code.Option ℕ) Refusal → List ℕ
+unfoldable pub given_numbers : Given → List ℕ
 given_numbers (Ok (Some n)) = 0 ∷ 1 ∷ n ∷ []
 given_numbers (Ok None) = 0 ∷ 0 ∷ 0 ∷ []
 given_numbers (Err e) = number e ∷ 0 ∷ 0 ∷ []

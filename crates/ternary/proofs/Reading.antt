@@ -8,15 +8,15 @@ use native.Mathlib.Omega.{arith}
 use lib.ListN.{length, take, drop, get_or, length-drop, take-append-drop}
 use lib.Dec.{leb}
 use borrow.Author.Tests.{leb-true, le-leb}
+use Rattle.std.specs.Prelude.{Result}
 use Rattle.calculus.specs.Tree.{Tree, size}
 use Rattle.table.specs.Nodes.{Table, Placed, got, capacity, Sound}
 use Rattle.table.specs.Outcome.{Entered, Outcome, whole, frames, zeros, at_entry, unless, placed}
-use Rattle.table.specs.Refusal.{number, clears}
+use Rattle.table.specs.Refusal.{number, clears, made, not_made}
 use Rattle.table.specs.declared.Refusal.{Refusal}
 use Rattle.table.specs.declared.Refusal.TheVariants.{Nodes}
-use Rattle.table.specs.declared.Made.{Made}
-use Rattle.table.specs.declared.Made.TheVariants.{Node, Refused}
 use Rattle.table.specs.Claims.{Kept, Extends, Has, Room}
+use Rattle.table.specs.declared.Made.{Made}
 use Rattle.table.proofs.Lists.{from_place}
 use Rattle.table.proofs.Words.{zero_one}
 use Rattle.table.proofs.Trees.{kept_refl, kept_tree}
@@ -56,12 +56,12 @@ module _ (w : List ℕ) (u : ℕ) (s l : List ℕ) where
   read_case = go (at_entry true w u s) (readable l) refl refl
     where
       go : (a : Option Refusal) (r : Option Tree) → at_entry true w u s ≡ a → readable l ≡ r
-          → ReadCase w u s l (unless a (λ e. whole (Refused e) w s) (read_tree w u s l r))
+          → ReadCase w u s l (unless a (λ e. whole (not_made e) w s) (read_tree w u s l r))
       go (some e) r p q = refuses (of_entry (entry_lacks true w u s p)) refl
       go none none p q = refuses (no_text p q) refl
       go none (some t) p q = room (room_case w u s (most_pending l) t)
         where
-          room : {o : Outcome Made} → Room w u s (most_pending l) t o → ReadCase w u s l o
+          room : {o : Outcome (Result Made Refusal)} → Room w u s (most_pending l) t o → ReadCase w u s l o
           room (Room.no_frames h r) = refuses (no_frames p (readable_some l t q) h) r
           room (Room.no_nodes h {z = z} e r) =
               refuses (ReadLacks.no_nodes p (readable_some l t q) h ((lay_full (record { words = w; used = u }) t z).0 e))
@@ -71,7 +71,7 @@ module _ (w : List ℕ) (u : ℕ) (s l : List ℕ) where
 
   -- "Numbers 1 to 6 [..] leave lent memory as found. Numbers 7 to 10 set to 0 the words of the nodes made in the call and the whole stack": a refusal
   -- comes only on its condition, and leaves table and stack so.
-  pub read_lacks : (e : Refusal) → (read w u s l).answer ≡ Refused e → ReadLacks w u s l e (read w u s l).table (read w u s l).stack
+  pub read_lacks : (e : Refusal) → (read w u s l).answer ≡ not_made e → ReadLacks w u s l e (read w u s l).table (read w u s l).stack
   read_lacks e q = go read_case
     where
       go : ReadCase w u s l (read w u s l) → ReadLacks w u s l e (read w u s l).table (read w u s l).stack
@@ -80,10 +80,10 @@ module _ (w : List ℕ) (u : ℕ) (s l : List ℕ) where
           let b : (read w u s l).stack ≡ s' = cc in
           let c : f ≡ e = cc in
           rw (a, b, ← c) k
-      go (lays h r) = refused_made (sym q ∙ ap (λ (o : Outcome Made). o.answer) r ∙ placed_answer h.placed_as s)
+      go (lays h r) = refused_made (sym q ∙ ap (λ (o : Outcome (Result Made Refusal)). o.answer) r ∙ placed_answer h.placed_as s)
 
   -- The other way: on each condition its refusal comes.
-  pub read_stops : {e : Refusal} {w' s' : List ℕ} → ReadLacks w u s l e w' s' → read w u s l ≡ whole (Refused e) w' s'
+  pub read_stops : {e : Refusal} {w' s' : List ℕ} → ReadLacks w u s l e w' s' → read w u s l ≡ whole (not_made e) w' s'
   unfolding read read_tree
   read_stops (of_entry p) = rw (lacks_entry p)
   read_stops (no_text p q) = rw (p, q)
@@ -94,7 +94,7 @@ module _ (w : List ℕ) (u : ℕ) (s l : List ℕ) where
       (sym (room_laid w u s (most_pending l) t h) ∙ laid_full w u s t f ∙ full_outcome w u s (lay_fills (entered true w u s p).table t f))
 
   -- "Numbers 7 to 10 set to 0 the words of the nodes made in the call": no refusal of Read changes a node in use.
-  pub read_refused : (e : Refusal) → (read w u s l).answer ≡ Refused e → Kept (record { words = w; used = u }) (record { words = (read w u s l).table; used = u })
+  pub read_refused : (e : Refusal) → (read w u s l).answer ≡ not_made e → Kept (record { words = w; used = u }) (record { words = (read w u s l).table; used = u })
   read_refused e q = go (read_lacks e q)
     where
       go : {f : Refusal} {w' s' : List ℕ} → ReadLacks w u s l f w' s' → Kept (record { words = w; used = u }) (record { words = w'; used = u })
@@ -111,8 +111,8 @@ module _ (w : List ℕ) (u : ℕ) (s l : List ℕ) where
       rw (h.entered, some_readable h.readable_as)
       (sym (room_laid w u s (most_pending l) t h.frames_enough) ∙ laid_got w u s t h.nodes_enough)
 
-  pub read_limits : {t : Tree} (h : ReadHas w u s l t) → (read w u s l).answer ≡ Node h.placed_as.node h.placed_as.table.used
-  read_limits h = ap (λ (o : Outcome Made). o.answer) (read_lays h) ∙ placed_answer h.placed_as s
+  pub read_limits : {t : Tree} (h : ReadHas w u s l t) → (read w u s l).answer ≡ made h.placed_as.node h.placed_as.table.used
+  read_limits h = ap (λ (o : Outcome (Result Made Refusal)). o.answer) (read_lays h) ∙ placed_answer h.placed_as s
 
   -- a free node for each digit is enough
   pub read_room : {t : Tree} → at_entry true w u s ≡ none → Readable l t → most_pending l ≤ frames s → u + length l ≤ capacity w → ReadHas w u s l t
@@ -122,7 +122,7 @@ module _ (w : List ℕ) (u : ℕ) (s l : List ℕ) where
 
   -- "that node's number is taken instead" ([8]): of a text whose tree the table has, Read gives that node and changes no word of the table,
   pub read_found : {t : Tree} {i : ℕ} → at_entry true w u s ≡ none → Readable l t → most_pending l ≤ frames s → Has (record { words = w; used = u }) i t
-      → read w u s l ≡ whole (Node i u) w (zeros s)
+      → read w u s l ≡ whole (made i u) w (zeros s)
   unfolding placed
   read_found {t} {i} p r f h =
       read_lays (record {
@@ -134,7 +134,7 @@ module _ (w : List ℕ) (u : ℕ) (s l : List ℕ) where
       })
 
   -- and 8 does not come, however few nodes are free
-  pub found_never_full : {t : Tree} {i : ℕ} → Readable l t → Has (record { words = w; used = u }) i t → (read w u s l).answer ≡ Refused Nodes → ⊥
+  pub found_never_full : {t : Tree} {i : ℕ} → Readable l t → Has (record { words = w; used = u }) i t → (read w u s l).answer ≡ not_made Nodes → ⊥
   unfolding clears number
   found_never_full {t} {i} r h q = go (read_lacks Nodes q)
     where
@@ -150,7 +150,7 @@ module _ (w : List ℕ) (u : ℕ) (s l : List ℕ) where
   entered_read e = rw (enters e)
 
 -- "Read a text into the table": where Read gives a node, all of this holds.
-pub read_gives : (w : List ℕ) (u : ℕ) (s l : List ℕ) (v u' : ℕ) → (read w u s l).answer ≡ Node v u' → Reads w u s l v u'
+pub read_gives : (w : List ℕ) (u : ℕ) (s l : List ℕ) (v u' : ℕ) → (read w u s l).answer ≡ made v u' → Reads w u s l v u'
 read_gives w u s l v u' q = go (read_case w u s l)
   where
     go : ReadCase w u s l (read w u s l) → Reads w u s l v u'
@@ -166,7 +166,7 @@ read_gives w u s l v u' q = go (read_case w u s l)
           laid_is = r;
           used_most = omega (arith, g.used_most, text_size h.readable_as);
           places = g.places;
-          stack = ap (λ (o : Outcome Made). o.stack) r ∙ placed_stack h.placed_as s;
+          stack = ap (λ (o : Outcome (Result Made Refusal)). o.stack) r ∙ placed_stack h.placed_as s;
         }
 
 -- a node placed, by its parts
@@ -175,13 +175,13 @@ placed_by m a b c = rw (← a, ← b, ← c)
 
 -- "Nodes are wanted in the order in which document 01 numbers them, a found one takes no new number" ([8]): the node given is the one pending once
 -- the digits are taken, last to first.
-pub read_digits : (w : List ℕ) (u : ℕ) (s l : List ℕ) (v u' : ℕ) → (read w u s l).answer ≡ Node v u'
+pub read_digits : (w : List ℕ) (u : ℕ) (s l : List ℕ) (v u' : ℕ) → (read w u s l).answer ≡ made v u'
     → lay_digits (record { words = w; used = u }) l ≡ awaits (record { words = (read w u s l).table; used = u' }) (v ∷ [])
 read_digits w u s l v u' q =
     let r = read_gives w u s l v u' q in
     let m = r.had.placed_as in
-    let n = placed_node m s (sym (ap (λ (o : Outcome Made). o.answer) r.laid_is) ∙ q) in
-    let c : m.table.words ≡ (read w u s l).table = sym (ap (λ (o : Outcome Made). o.table) r.laid_is ∙ placed_words m s) in
+    let n = placed_node m s (sym (ap (λ (o : Outcome (Result Made Refusal)). o.answer) r.laid_is) ∙ q) in
+    let c : m.table.words ≡ (read w u s l).table = sym (ap (λ (o : Outcome (Result Made Refusal)). o.table) r.laid_is ∙ placed_words m s) in
     let k : m ≡ record { table = record { words = (read w u s l).table; used = u' }; node = v } = placed_by m c n.1 n.0 in
     ap (lay_digits (record { words = w; used = u })) (whole_text l r.tree r.whole_text)
     ∙ (digits_got (record { words = w; used = u }) r.tree (record { table = record { words = (read w u s l).table; used = u' }; node = v })).0 (r.had.nodes_enough ∙ ap got k)
@@ -215,6 +215,6 @@ digit_node {t} {z} s l p {ns} e h =
         }
 
 -- the same of the digits that Read was given
-pub read_digit : (w : List ℕ) (u : ℕ) (s l : List ℕ) (v u' : ℕ) → (read w u s l).answer ≡ Node v u' → (p : ℕ) → p < length l
+pub read_digit : (w : List ℕ) (u : ℕ) (s l : List ℕ) (v u' : ℕ) → (read w u s l).answer ≡ made v u' → (p : ℕ) → p < length l
     → DigitNode (record { words = w; used = u }) (record { words = (read w u s l).table; used = u' }) l p
 read_digit w u s l v u' q p h = digit_node (read_gives w u s l v u' q).entered.table l p (read_digits w u s l v u' q) h

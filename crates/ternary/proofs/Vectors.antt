@@ -5,11 +5,11 @@ use mathlib.Core.Path.{◌≡◌, refl}
 use mathlib.Core.List.{[], ◌∷◌, map}
 use mathlib.Core.Option.{none, some}
 use lib.ListN.{take, replicate}
+use Rattle.std.specs.Prelude.{Err, Ok}
 use Rattle.calculus.specs.Tree.{Tree, leaf, stem, fork, size}
 use Rattle.table.specs.Nodes.{Table, make, or_new, new_node, and_then, lay, find, has_words, is_none, broken, sound}
 use Rattle.table.specs.Outcome.{whole, fits, at_entry, placed, stopped, settled, laid, laid_within}
-use Rattle.table.specs.Refusal.{number, refused_numbers}
-use Rattle.table.specs.declared.Made.TheVariants as made
+use Rattle.table.specs.Refusal.{number, refused_numbers, made, not_made}
 use Rattle.table.specs.declared.Refusal.TheVariants.{Text, Nodes, Frames, Out}
 use Rattle.ternary.specs.Text.{text, take_leaf, take_stem, take_fork, take_digit, pending, single, tree_of, many_pending, most_pending}
 use Rattle.ternary.specs.Laying.{awaits, no_place, no_text, keep, want_leaf, want_stem, want_fork, lay_digit, lay_digits}
@@ -17,11 +17,10 @@ use Rattle.ternary.specs.Read.{readable, read_tree, read}
 use Rattle.ternary.specs.Wanted.{wanted_after, wanted_from, wanted}
 use Rattle.ternary.specs.Write.{left, lacks, next, spend, digits, written_numbers}
 use Rattle.ternary.specs.Held.{held}
-use Rattle.ternary.specs.declared.Written.TheVariants.{Digits, Refused}
 
 -- "A refusal returns its number, used as at entry, and 0 for node number, steps and digits."
-pub answers : (written_numbers 5 (Refused Out) ≡ record { refusal = 10; node = 0; used = 5; steps = 0; digits = 0 })
-    × (written_numbers 5 (Digits 6) ≡ record { refusal = 0; node = 0; used = 5; steps = 0; digits = 6 })
+pub answers : (written_numbers 5 (Err Out) ≡ record { refusal = 10; node = 0; used = 5; steps = 0; digits = 0 })
+    × (written_numbers 5 (Ok 6) ≡ record { refusal = 0; node = 0; used = 5; steps = 0; digits = 6 })
 unfolding written_numbers refused_numbers number
 answers = (refl, refl)
 
@@ -71,14 +70,14 @@ unfolding lay_digits lay_digit want_leaf want_stem want_fork keep make or_new ne
 digits_stop = (refl, refl)
 
 -- Read of 10 in a full table that has the leaf alone: 9 without a frame; with one, 8 for the stem. 0 is there and needs no place. 00 is 4.
-pub full_table : (read (0 ∷ 0 ∷ []) 1 (7 ∷ 7 ∷ []) (49 ∷ 48 ∷ []) ≡ whole (made.Refused Frames) (0 ∷ 0 ∷ []) (0 ∷ 0 ∷ []))
-    × (read (0 ∷ 0 ∷ []) 1 (7 ∷ 7 ∷ 7 ∷ []) (49 ∷ 48 ∷ []) ≡ whole (made.Refused Nodes) (0 ∷ 0 ∷ []) (0 ∷ 0 ∷ 0 ∷ []))
-    × (read (0 ∷ 0 ∷ []) 1 (7 ∷ 7 ∷ 7 ∷ []) (48 ∷ []) ≡ whole (made.Node 0 1) (0 ∷ 0 ∷ []) (0 ∷ 0 ∷ 0 ∷ []))
-    × (read (0 ∷ 0 ∷ []) 1 (7 ∷ 7 ∷ 7 ∷ []) (48 ∷ 48 ∷ []) ≡ whole (made.Refused Text) (0 ∷ 0 ∷ []) (7 ∷ 7 ∷ 7 ∷ []))
+pub full_table : (read (0 ∷ 0 ∷ []) 1 (7 ∷ 7 ∷ []) (49 ∷ 48 ∷ []) ≡ whole (not_made Frames) (0 ∷ 0 ∷ []) (0 ∷ 0 ∷ []))
+    × (read (0 ∷ 0 ∷ []) 1 (7 ∷ 7 ∷ 7 ∷ []) (49 ∷ 48 ∷ []) ≡ whole (not_made Nodes) (0 ∷ 0 ∷ []) (0 ∷ 0 ∷ 0 ∷ []))
+    × (read (0 ∷ 0 ∷ []) 1 (7 ∷ 7 ∷ 7 ∷ []) (48 ∷ []) ≡ whole (made 0 1) (0 ∷ 0 ∷ []) (0 ∷ 0 ∷ 0 ∷ []))
+    × (read (0 ∷ 0 ∷ []) 1 (7 ∷ 7 ∷ 7 ∷ []) (48 ∷ 48 ∷ []) ≡ whole (not_made Text) (0 ∷ 0 ∷ []) (7 ∷ 7 ∷ 7 ∷ []))
 unfolding read read_tree readable tree_of single pending take_digit take_leaf take_stem most_pending many_pending at_entry fits sound broken is_none find has_words laid_within laid settled placed stopped lay and_then make or_new new_node
 full_table = (refl, refl, refl, refl)
 
 -- Read of 2010 with a place for the stem alone: 8 at the fork, with the stem's words set to 0 and the odd word left
-pub cleared_again : read (0 ∷ 0 ∷ 5 ∷ 6 ∷ 9 ∷ []) 1 (7 ∷ 7 ∷ 7 ∷ 7 ∷ 7 ∷ 7 ∷ []) (50 ∷ 48 ∷ 49 ∷ 48 ∷ []) ≡ whole (made.Refused Nodes) (0 ∷ 0 ∷ 0 ∷ 0 ∷ 9 ∷ []) (replicate 6 0)
+pub cleared_again : read (0 ∷ 0 ∷ 5 ∷ 6 ∷ 9 ∷ []) 1 (7 ∷ 7 ∷ 7 ∷ 7 ∷ 7 ∷ 7 ∷ []) (50 ∷ 48 ∷ 49 ∷ 48 ∷ []) ≡ whole (not_made Nodes) (0 ∷ 0 ∷ 0 ∷ 0 ∷ 9 ∷ []) (replicate 6 0)
 unfolding read read_tree readable tree_of single pending take_digit take_leaf take_stem take_fork most_pending many_pending at_entry fits sound broken is_none find has_words laid_within laid settled stopped lay and_then make or_new new_node
 cleared_again = refl

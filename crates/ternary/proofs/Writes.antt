@@ -9,6 +9,7 @@ use lib.ListN.{length, take, drop}
 use lib.Seq.{take_at}
 use lib.Dec.{ltb, leb}
 use borrow.Author.Tests.{ltb-true, ltb-false, leb-true, lt-ltb, le-ltb}
+use Rattle.std.specs.Prelude.{Err, Ok}
 use Rattle.calculus.specs.Tree.{Tree, size}
 use Rattle.table.specs.Nodes.{tree_at}
 use Rattle.table.specs.Outcome.{Outcome, Entered, whole_out, frames, zeros, at_entry, unless}
@@ -17,9 +18,7 @@ use Rattle.table.specs.declared.Refusal.{Refusal}
 use Rattle.table.specs.declared.Refusal.TheVariants.{Node, Frames, Out}
 use Rattle.table.proofs.Entry.{entered, enters, entry_lacks, lacks_entry, entry_keeps}
 use Rattle.ternary.specs.Text.{text}
-use Rattle.ternary.specs.Write.{Room, lacks, digits, written, write_tree, write}
-use Rattle.ternary.specs.declared.Written.{Written}
-use Rattle.ternary.specs.declared.Written.TheVariants.{Digits, Refused}
+use Rattle.ternary.specs.Write.{Room, lacks, digits, written, write_tree, write, Written}
 use Rattle.ternary.specs.Held.{NoFrame, OutFull, Spent, enough, no_out, no_frame}
 use Rattle.ternary.specs.Lacks.{Readable, Begun, WriteLacks, WriteHas, all_written, WriteCase, Writes}
 use Rattle.ternary.specs.Lacks.WriteLacks.{of_entry, no_node, no_room}
@@ -38,7 +37,7 @@ module _ (w : List ℕ) (u : ℕ) (s : List ℕ) (i : ℕ) (o : List ℕ) where
       t = tree_at w i
 
       go : (a : Option Refusal) (b : Bool) → at_entry (leb (length o) 65535) w u s ≡ a → ltb i u ≡ b
-          → WriteCase w u s i o (unless a (λ e. whole_out (Refused e) w s o) (cond b (written w s o t (digits (frames s) 0 t (length o))) (whole_out (Refused Node) w s o)))
+          → WriteCase w u s i o (unless a (λ e. whole_out (Err e) w s o) (cond b (written w s o t (digits (frames s) 0 t (length o))) (whole_out (Err Node) w s o)))
       go (some e) b p q = refuses (of_entry (entry_lacks (leb (length o) 65535) w u s p)) refl
       go none false p q = refuses (no_node p (ltb-false i u q)) refl
       go none true p q = room (digits_spend (frames s) 0 t (length o))
@@ -49,7 +48,7 @@ module _ (w : List ℕ) (u : ℕ) (s : List ℕ) (i : ℕ) (o : List ℕ) where
           room (no_frame h) = refuses (no_room p (ltb-true i u q) (no_frame h)) refl
 
   -- "the out bytes stay as at entry, also where Write stops part way": no refusal of Write changes an out byte or a table word.
-  pub write_refused : (e : Refusal) → (write w u s i o).answer ≡ Refused e → ((write w u s i o).out ≡ o) × ((write w u s i o).table ≡ w)
+  pub write_refused : (e : Refusal) → (write w u s i o).answer ≡ Err e → ((write w u s i o).out ≡ o) × ((write w u s i o).table ≡ w)
   write_refused e q = go write_case
     where
       go : WriteCase w u s i o (write w u s i o) → ((write w u s i o).out ≡ o) × ((write w u s i o).table ≡ w)
@@ -58,7 +57,7 @@ module _ (w : List ℕ) (u : ℕ) (s : List ℕ) (i : ℕ) (o : List ℕ) where
 
   -- "Numbers 1 to 6 [..] leave lent memory as found. Numbers 7 to 10 set to 0 [..] the whole stack": a refusal comes only on its condition, and leaves
   -- the stack so.
-  pub write_lacks : (e : Refusal) → (write w u s i o).answer ≡ Refused e → WriteLacks w u s i o e (write w u s i o).stack
+  pub write_lacks : (e : Refusal) → (write w u s i o).answer ≡ Err e → WriteLacks w u s i o e (write w u s i o).stack
   write_lacks e q = go write_case
     where
       go : WriteCase w u s i o (write w u s i o) → WriteLacks w u s i o e (write w u s i o).stack
@@ -69,7 +68,7 @@ module _ (w : List ℕ) (u : ℕ) (s : List ℕ) (i : ℕ) (o : List ℕ) where
       go (writes h r) = zero_one (cc)
 
   -- The other way: on each condition its refusal comes, with the table and the out bytes as found.
-  pub write_stops : {e : Refusal} {s' : List ℕ} → WriteLacks w u s i o e s' → write w u s i o ≡ whole_out (Refused e) w s' o
+  pub write_stops : {e : Refusal} {s' : List ℕ} → WriteLacks w u s i o e s' → write w u s i o ≡ whole_out (Err e) w s' o
   unfolding write write_tree written
   write_stops (of_entry p) = rw (lacks_entry p)
   write_stops (no_node p h) = rw (p, le-ltb i u h)
@@ -77,8 +76,8 @@ module _ (w : List ℕ) (u : ℕ) (s : List ℕ) (i : ℕ) (o : List ℕ) where
 
   -- "10 if out is full": only where the digits are begun, are more than the bytes, and no fork among those written lacks a frame; and there always, with
   -- the table and the out bytes as found and the stack set to 0.
-  pub write_out : ((write w u s i o).answer ≡ Refused Out → Begun w u s i o × OutFull (frames s) 0 (tree_at w i) (length o))
-      × (Begun w u s i o → OutFull (frames s) 0 (tree_at w i) (length o) → write w u s i o ≡ whole_out (Refused Out) w (zeros s) o)
+  pub write_out : ((write w u s i o).answer ≡ Err Out → Begun w u s i o × OutFull (frames s) 0 (tree_at w i) (length o))
+      × (Begun w u s i o → OutFull (frames s) 0 (tree_at w i) (length o) → write w u s i o ≡ whole_out (Err Out) w (zeros s) o)
   unfolding clears number
   write_out = (λ q. go (write_lacks Out q), λ b h. write_stops (no_room b.0 b.1 (no_out h)))
     where
@@ -88,8 +87,8 @@ module _ (w : List ℕ) (u : ℕ) (s : List ℕ) (i : ℕ) (o : List ℕ) where
 
   -- "9 if the digit is 2 and every frame is held by a fork whose second branch is not begun": only where the digits are begun and the first that cannot be
   -- written is such a 2, with a byte left for it; and there always, with the same memory.
-  pub write_frames : ((write w u s i o).answer ≡ Refused Frames → Begun w u s i o × NoFrame (frames s) 0 (tree_at w i) (length o))
-      × (Begun w u s i o → NoFrame (frames s) 0 (tree_at w i) (length o) → write w u s i o ≡ whole_out (Refused Frames) w (zeros s) o)
+  pub write_frames : ((write w u s i o).answer ≡ Err Frames → Begun w u s i o × NoFrame (frames s) 0 (tree_at w i) (length o))
+      × (Begun w u s i o → NoFrame (frames s) 0 (tree_at w i) (length o) → write w u s i o ≡ whole_out (Err Frames) w (zeros s) o)
   unfolding clears number
   write_frames = (λ q. go (write_lacks Frames q), λ b h. write_stops (no_room b.0 b.1 (no_frame h)))
     where
@@ -112,7 +111,7 @@ module _ (w : List ℕ) (u : ℕ) (s : List ℕ) (i : ℕ) (o : List ℕ) where
 
 module _ (w : List ℕ) (u : ℕ) (s : List ℕ) (i : ℕ) (o : List ℕ) (n : ℕ) where
   -- "Write a node's tree as text": where Write gives digits, all of this holds.
-  pub write_gives : (write w u s i o).answer ≡ Digits n → Writes w u s i o n
+  pub write_gives : (write w u s i o).answer ≡ Ok n → Writes w u s i o n
   write_gives q = go (write_case w u s i o)
     where
       go : WriteCase w u s i o (write w u s i o) → Writes w u s i o n

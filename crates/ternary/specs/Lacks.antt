@@ -1,6 +1,6 @@
 -- What Read and Write lacked where they refuse, and what they had where they do not (Operations, Read and Write). Assumes nothing: these are
 -- definitions.
-use Rattle.std.specs.Prelude.{ℕ, ◌+◌, ◌*◌, ◌≤◌, ◌<◌, ◌≡◌, true, List, ◌∷◌, ◌++◌, length, drop, leb}
+use Rattle.std.specs.Prelude.{ℕ, ◌+◌, ◌*◌, ◌≤◌, ◌<◌, ◌≡◌, true, List, ◌∷◌, ◌++◌, length, drop, leb, Err, Ok, Result}
 use Rattle.std.proofs.Math.Option.{none, some}
 use Rattle.calculus.specs.Tree.{Tree, size}
 use Rattle.table.specs.Nodes.{Table, Placed, got, capacity, tree_at, lay, cleared}
@@ -8,14 +8,12 @@ use Rattle.table.specs.Outcome.{Outcome, Entered, whole, whole_out, frames, zero
 use Rattle.table.specs.Claims.{Places, Lacking, EntryLacks}
 use Rattle.table.specs.declared.Refusal.{Refusal}
 use Rattle.table.specs.declared.Refusal.TheVariants.{Node, Text, Nodes, Frames}
+use Rattle.table.specs.Refusal.{not_made}
 use Rattle.table.specs.declared.Made.{Made}
-use Rattle.table.specs.declared.Made.TheVariants as made
 use Rattle.ternary.specs.Text.{text, tree_of, most_pending}
 use Rattle.ternary.specs.Read.{readable, read}
 use Rattle.ternary.specs.Laying.{awaits, lay_digits, Numbered}
-use Rattle.ternary.specs.Write.{lacks, write}
-use Rattle.ternary.specs.declared.Written.{Written}
-use Rattle.ternary.specs.declared.Written.TheVariants as written
+use Rattle.ternary.specs.Write.{lacks, write, Written}
 use Rattle.ternary.specs.Held.{Framed, Spent}
 
 -- "4: text not one whole tree, or above 65,535 bytes": what holds where neither is so.
@@ -42,8 +40,8 @@ pub record ReadHas (w : List ℕ) (u : ℕ) (s l : List ℕ) (t : Tree) : Type 0
   pub nodes_enough : lay (record { words = w; used = u }) t ≡ got placed_as
 
 -- the two kinds of Read's outcome o
-pub data ReadCase (w : List ℕ) (u : ℕ) (s l : List ℕ) (o : Outcome Made) : Type 0 where
-  refuses : {e : Refusal} {w' s' : List ℕ} → ReadLacks w u s l e w' s' → o ≡ whole (made.Refused e) w' s' → ReadCase w u s l o
+pub data ReadCase (w : List ℕ) (u : ℕ) (s l : List ℕ) (o : Outcome (Result Made Refusal)) : Type 0 where
+  refuses : {e : Refusal} {w' s' : List ℕ} → ReadLacks w u s l e w' s' → o ≡ whole (not_made e) w' s' → ReadCase w u s l o
   lays : {t : Tree} → (h : ReadHas w u s l t) → o ≡ placed h.placed_as s → ReadCase w u s l o
 
 -- What a node v that Read gave is: it has the tree of the text, old nodes keep their trees, at most one new node is made for a digit, and "success also
@@ -97,11 +95,11 @@ pub record WriteHas (w : List ℕ) (u : ℕ) (s : List ℕ) (i : ℕ) (o : List 
 
 -- "Bytes past the text stay": the outcome where every digit is written
 abbrev pub all_written : List ℕ → List ℕ → List ℕ → Tree → Outcome Written
-all_written w s o t = whole_out (written.Digits (length (text t))) w (zeros s) (text t ++ drop (length (text t)) o)
+all_written w s o t = whole_out (Ok (length (text t))) w (zeros s) (text t ++ drop (length (text t)) o)
 
 -- the two kinds of Write's outcome z
 pub data WriteCase (w : List ℕ) (u : ℕ) (s : List ℕ) (i : ℕ) (o : List ℕ) (z : Outcome Written) : Type 0 where
-  refuses : {e : Refusal} {s' : List ℕ} → WriteLacks w u s i o e s' → z ≡ whole_out (written.Refused e) w s' o → WriteCase w u s i o z
+  refuses : {e : Refusal} {s' : List ℕ} → WriteLacks w u s i o e s' → z ≡ whole_out (Err e) w s' o → WriteCase w u s i o z
   writes : WriteHas w u s i o → z ≡ all_written w s o (tree_at w i) → WriteCase w u s i o z
 
 -- What the n digits that Write wrote are: the text of node i's tree. "Bytes past the text stay."

@@ -1,5 +1,5 @@
 -- The whole outcome of Write (Operations, Write). Assumes nothing: these are definitions.
-use Rattle.std.specs.Prelude.{ℕ, zero, suc, cond, List, ◌++◌, length, drop, ltb, leb}
+use Rattle.std.specs.Prelude.{ℕ, zero, suc, cond, List, ◌++◌, length, drop, ltb, leb, Result, Ok, Err}
 use Rattle.calculus.specs.Tree.{Tree, leaf, stem, fork}
 use Rattle.table.specs.Nodes.{tree_at}
 use Rattle.table.specs.Outcome.{Outcome, whole_out, frames, zeros, at_entry, unless}
@@ -7,13 +7,15 @@ use Rattle.table.specs.Refusal.{Numbers, refused_numbers}
 use Rattle.table.specs.declared.Refusal.{Refusal}
 use Rattle.table.specs.declared.Refusal.TheVariants.{Node, Frames, Out}
 use Rattle.ternary.specs.Text.{text}
-use Rattle.ternary.specs.declared.Written.{Written}
-use Rattle.ternary.specs.declared.Written.TheVariants.{Digits, Refused}
+
+-- the answer of Write, and of `generate`: how many digits were written, or the refusal
+abbrev pub Written : Type 0
+Written = Result ℕ Refusal
 
 -- the numbers of Write's answer, with `used` as at entry
 unfoldable pub written_numbers : ℕ → Written → Numbers
-written_numbers used (Digits n) = record { refusal = 0; node = 0; used = used; steps = 0; digits = n }
-written_numbers used (Refused e) = refused_numbers used e
+written_numbers used (Ok n) = record { refusal = 0; node = 0; used = used; steps = 0; digits = n }
+written_numbers used (Err e) = refused_numbers used e
 
 -- The digits of a tree, one after another: how many out bytes are left after them, or the refusal at the first digit that lacks something.
 pub data Room : Type 0 where
@@ -38,8 +40,8 @@ digits all held (fork p q) n = spend n (λ m. cond (ltb held all) (next (digits 
 
 -- "Bytes past the text stay." A refusal leaves all out bytes.
 unfoldable pub written : List ℕ → List ℕ → List ℕ → Tree → Room → Outcome Written
-written w s o t (left n) = whole_out (Digits (length (text t))) w (zeros s) (text t ++ drop (length (text t)) o)
-written w s o t (lacks e) = whole_out (Refused e) w (zeros s) o
+written w s o t (left n) = whole_out (Ok (length (text t))) w (zeros s) (text t ++ drop (length (text t)) o)
+written w s o t (lacks e) = whole_out (Err e) w (zeros s) o
 
 -- what Write does on a table that passed 1 and 2, with the tree of a node in use
 unfoldable pub write_tree : List ℕ → List ℕ → List ℕ → Tree → Outcome Written
@@ -48,5 +50,5 @@ write_tree w s o t = written w s o t (digits (frames s) 0 t (length o))
 -- Write the tree of node i of the table w with u nodes in use to the out bytes o, with the stack s.
 unfoldable pub write : List ℕ → ℕ → List ℕ → ℕ → List ℕ → Outcome Written
 write w u s i o =
-    unless (at_entry (leb (length o) 65535) w u s) (λ e. whole_out (Refused e) w s o)
-    (cond (ltb i u) (write_tree w s o (tree_at w i)) (whole_out (Refused Node) w s o))
+    unless (at_entry (leb (length o) 65535) w u s) (λ e. whole_out (Err e) w s o)
+    (cond (ltb i u) (write_tree w s o (tree_at w i)) (whole_out (Err Node) w s o))

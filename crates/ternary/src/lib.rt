@@ -1,12 +1,3 @@
 // Ternary text, Read and Write as definitions, in specs/, and their theorems, in proofs/. In code the test for a whole text is the crate `whole_text`,
 // Read the crates `reader` and `read`, Write the crate `writer`.
 #![tactic(auto)]
-
-use table::Refusal;
-
-// Write's answer, and `generate`'s: how many digits were written.
-#[derive(Clone, Copy)]
-pub enum Written {
-    Digits(usize),
-    Refused(Refusal),
-}

@@ -5,6 +5,7 @@ use mathlib.Core.Bool.{true}
 use mathlib.Core.List.{List}
 use mathlib.Core.Option.{Option, none, some}
 use native.Mathlib.Omega.{arith}
+use Rattle.std.specs.Prelude.{Result}
 use Rattle.calculus.specs.Tree.{size}
 use Rattle.calculus.specs.Term.{Term}
 use Rattle.calculus.specs.Bytes.{rule}
@@ -12,20 +13,20 @@ use Rattle.calculus.specs.Abstraction.{rule_tree}
 use Rattle.table.specs.Nodes.{capacity}
 use Rattle.table.specs.Outcome.{Outcome, Entered, whole, frames, at_entry, unless, placed}
 use Rattle.table.specs.declared.Refusal.{Refusal}
-use Rattle.table.specs.declared.Made.{Made}
-use Rattle.table.specs.declared.Made.TheVariants.{Node, Refused}
 use Rattle.table.specs.Claims.{Kept, Room}
 use Rattle.table.proofs.Words.{zero_one}
 use Rattle.table.proofs.Trees.{kept_refl}
 use Rattle.table.proofs.Making.{lay_full, lay_fills, lay_room}
 use Rattle.table.proofs.Entry.{entered, enters, entry_lacks, lacks_entry, full_kept}
 use Rattle.table.proofs.Laid.{room_case, room_laid, frames_refused, laid_got, laid_full, full_outcome, placed_gives, placed_answer, placed_stack}
+use Rattle.table.specs.Refusal.{made, not_made}
+use Rattle.table.specs.declared.Made.{Made}
 use Rattle.translation.specs.Translate.{translate_rule, translate}
 use Rattle.translation.specs.Lacks.{Lacks, Has, Translates}
 
 -- the two kinds of Translate's outcome o
-data Case (w : List ℕ) (u : ℕ) (s b : List ℕ) (o : Outcome Made) : Type 0 where
-  refuses : {e : Refusal} {w' s' : List ℕ} → Lacks w u s b e w' s' → o ≡ whole (Refused e) w' s' → Case w u s b o
+data Case (w : List ℕ) (u : ℕ) (s b : List ℕ) (o : Outcome (Result Made Refusal)) : Type 0 where
+  refuses : {e : Refusal} {w' s' : List ℕ} → Lacks w u s b e w' s' → o ≡ whole (not_made e) w' s' → Case w u s b o
   lays_out : {t : Term} (h : Has w u s b t) → o ≡ placed h.placed_as s → Case w u s b o
 
 module _ (w : List ℕ) (u : ℕ) (s b : List ℕ) where
@@ -34,7 +35,7 @@ module _ (w : List ℕ) (u : ℕ) (s b : List ℕ) where
   case = go (at_entry true w u s) (rule b) refl refl
     where
       go : (a : Option Refusal) (r : Option Term) → at_entry true w u s ≡ a → rule b ≡ r
-          → Case w u s b (unless a (λ e. whole (Refused e) w s) (translate_rule w u s r))
+          → Case w u s b (unless a (λ e. whole (not_made e) w s) (translate_rule w u s r))
       go (some e) r p q = refuses (Lacks.of_entry (entry_lacks true w u s p)) refl
       go none none p q = refuses (Lacks.no_rule (entered true w u s p) q) refl
       go none (some t) p q = room (room_case w u s (2 * size (rule_tree t)) (rule_tree t))
@@ -42,7 +43,7 @@ module _ (w : List ℕ) (u : ℕ) (s b : List ℕ) where
           n : Entered true w u s
           n = entered true w u s p
 
-          room : {o : Outcome Made} → Room w u s (2 * size (rule_tree t)) (rule_tree t) o → Case w u s b o
+          room : {o : Outcome (Result Made Refusal)} → Room w u s (2 * size (rule_tree t)) (rule_tree t) o → Case w u s b o
           room (Room.no_frames h r) = refuses (Lacks.no_frames n q h) r
           room (Room.no_nodes h {z} l r) =
               refuses (Lacks.no_nodes n q h ((lay_full (record { words = w; used = u }) (rule_tree t) z).0 l))
@@ -50,7 +51,7 @@ module _ (w : List ℕ) (u : ℕ) (s b : List ℕ) where
           room (Room.enough h {m} l r) = lays_out (record { entered = n; is_rule = q; frames_enough = h; placed_as = m; nodes_enough = l }) r
 
   -- "Translate a rule.": where Translate gives a node, its tree is the translated rule's.
-  pub translate_gives : (v u' : ℕ) → (translate w u s b).answer ≡ Node v u' → Translates w u s b v u'
+  pub translate_gives : (v u' : ℕ) → (translate w u s b).answer ≡ made v u' → Translates w u s b v u'
   translate_gives v u' q = go case
     where
       go : Case w u s b (translate w u s b) → Translates w u s b v u'
@@ -63,10 +64,10 @@ module _ (w : List ℕ) (u : ℕ) (s b : List ℕ) where
             had = h;
             lays = placed_gives w u s (rule_tree t) v u' h.entered.table h.nodes_enough r q;
             laid_is = r;
-            stack = ap (λ (o : Outcome Made). o.stack) r ∙ placed_stack h.placed_as s;
+            stack = ap (λ (o : Outcome (Result Made Refusal)). o.stack) r ∙ placed_stack h.placed_as s;
           }
 
-  module _ (e : Refusal) (q : (translate w u s b).answer ≡ Refused e) where
+  module _ (e : Refusal) (q : (translate w u s b).answer ≡ not_made e) where
     -- "Numbers 1 to 6 [..] leave lent memory as found. Numbers 7 to 10 set to 0 the words of the nodes made in the call and the whole stack": a refusal
     -- comes only on its condition, and leaves table and stack so.
     pub translate_lacks : Lacks w u s b e (translate w u s b).table (translate w u s b).stack
@@ -91,7 +92,7 @@ module _ (w : List ℕ) (u : ℕ) (s b : List ℕ) where
         go (Lacks.no_nodes n h k l) = full_kept (record { words = w; used = u }) n.table.within
 
   -- The other way: on each condition its refusal comes.
-  pub translate_stops : {e : Refusal} {x y : List ℕ} → Lacks w u s b e x y → translate w u s b ≡ whole (Refused e) x y
+  pub translate_stops : {e : Refusal} {x y : List ℕ} → Lacks w u s b e x y → translate w u s b ≡ whole (not_made e) x y
   unfolding translate translate_rule
   translate_stops (Lacks.of_entry h) = rw (lacks_entry h)
   translate_stops (Lacks.no_rule n h) = rw (enters n, h)
@@ -122,5 +123,5 @@ module _ (w : List ℕ) (u : ℕ) (s b : List ℕ) where
       rw (enters h.entered, h.is_rule)
       (sym (room_laid w u s (2 * size (rule_tree t)) (rule_tree t) h.frames_enough) ∙ laid_got w u s (rule_tree t) h.nodes_enough)
 
-  pub translate_answer : (t : Term) (h : Has w u s b t) → (translate w u s b).answer ≡ Node h.placed_as.node h.placed_as.table.used
+  pub translate_answer : (t : Term) (h : Has w u s b t) → (translate w u s b).answer ≡ made h.placed_as.node h.placed_as.table.used
   translate_answer t h = rw (translate_lays t h) (placed_answer h.placed_as s)
