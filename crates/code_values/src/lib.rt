@@ -114,10 +114,10 @@ const VALUES: [u32; 1374] = [
 ];
 
 // The table as a value: it holds the values of all these trees and nothing else, ascending, by one test that the checker computes over the whole of it.
-fn all_values() -> [u32; 1374]
-    ensures { HoldsValues result }
+fn all_values() -> &'static [u32; 1374]
+    ensures { HoldsValues result.now }
 {
-    VALUES
+    &VALUES
 }
 
 // The value at a place of the table, counting from 0.
@@ -125,25 +125,13 @@ pub fn value_at(place: usize) -> u32
     requires { place < 1374 }
     ensures { result ≡ get_or values place 0 }
 {
-    let values = all_values();
-    values[place]
+    all_values()[place]
 }
 
-// The place of the greatest value of the table that is at most `value`, by binary search.
+// The place of the greatest value of the table that is at most `value`: one below how many values are.
 pub fn place_at_most(value: usize) -> usize
     ensures { PlaceFor value result }
 {
-    // An array is a value, which is copied where it is used: a search copies it once.
-    let values = all_values();
-    let mut low = 0;
-    let mut high = 1374;
-    while low + 1 < high {
-        let middle = (low + high) / 2;
-        if value < values[middle] as usize {
-            high = middle;
-        } else {
-            low = middle;
-        }
-    }
-    low
+    let many = all_values().partition_point(|v| *v as usize <= value);
+    many - 1
 }

@@ -7,4 +7,4 @@ use Rattle.short_codes.proofs.Holding.{one_table}
 use Rattle.code_values.proofs.value_at.Goals as goal
 
 pub returns : goal.returns
-returns c = ap (λ (l : List ℕ). get_or l c.args.place 0) (one_table _ c.all_values-values.ensures)
+returns c = ap (λ (l : List ℕ). get_or l c.args.place 0) (one_table _ c.all_values.ensures)
