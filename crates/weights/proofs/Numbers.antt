@@ -1,16 +1,16 @@
 -- Decimal digits as numbers: digits and grams undo one another, and adding and comparing digit by digit is that of the grams. Assumes nothing.
 use Prim.Native.Nat.{ℕ, zero, suc, ◌+◌, ◌*◌, ◌/◌, ◌%◌, ◌≤◌, ◌<◌}
-use mathlib.Core.Path.{◌≡◌, refl, sym, ap}
-use mathlib.Core.Bool.{Bool, true, false}
+use mathlib.Core.Path.{◌≡◌, refl, ap}
 use mathlib.Core.List.{List, [], ◌∷◌}
 use mathlib.Core.Option.{none, some}
 use native.Mathlib.Omega.{arith}
 use lib.ListN.{length}
-use lib.Dec.{ltb}
-use borrow.Author.Tests.{lt-ltb, le-ltb, ltb-true, ltb-false}
-use Rattle.weights.specs.Digits.{grams_of, digits_of, before, add_digits, order_of, decides, compare_digits}
+use Rattle.std.specs.Ordering.{ordering_then, nat_cmp, MatchOrdering}
+use Rattle.std.specs.declared.cmp.Ordering.{Ordering}
+use Rattle.std.specs.declared.cmp.Ordering.TheVariants.{Less, Equal, Greater}
+use Rattle.std.specs.Cmp.{nat_cmp_is, ranks}
+use Rattle.weights.specs.Digits.{grams_of, digits_of, before, add_digits, compare_digits}
 use Rattle.weights.specs.Claims.{Decimal}
-use Rattle.weights.specs.declared.Ordered.TheVariants.{Less, Equal, Greater}
 
 -- how many numbers so many digits can be
 unfoldable pub tens : ℕ → ℕ
@@ -73,46 +73,23 @@ adds_above [] (y ∷ ys) e c h = absurd (omega arith)
 adds_above (x ∷ xs) [] e c h = refl
 adds_above (x ∷ xs) (y ∷ ys) e c h = rw (adds_above xs ys (omega arith) ((c + x + y) / 10) (omega arith))
 
--- which of two numbers is less, and what is answered
-pub data Order (x y : ℕ) : Type 0 where
-  less : x < y → Order x y
-  equal : x ≡ y → Order x y
-  greater : y < x → Order x y
-
-pub order : (x y : ℕ) → Order x y
-order x y = go (ltb x y) (ltb y x) refl refl
-  where
-    go : (a b : Bool) → ltb x y ≡ a → ltb y x ≡ b → Order x y
-    go true b p q = less (ltb-true x y p)
-    go false true p q = greater (ltb-true y x q)
-    go false false p q = equal (omega (arith, ltb-false x y p, ltb-false y x q))
-
-pub order_less : {x y : ℕ} → x < y → order_of x y ≡ Less
-unfolding order_of
-order_less {x} {y} h = rw (lt-ltb x y h)
-
-pub order_greater : {x y : ℕ} → y < x → order_of x y ≡ Greater
-unfolding order_of
-order_greater {x} {y} h = rw (le-ltb x y (omega arith), lt-ltb y x h)
-
-pub order_equal : {x y : ℕ} → x ≡ y → order_of x y ≡ Equal
-unfolding order_of
-order_equal {x} {y} h = rw (le-ltb x y (omega arith), le-ltb y x (omega arith))
-
 -- a digit decides where the higher ones are equal
-higher : (x y X Y : ℕ) → x ≤ 9 → y ≤ 9 → Order X Y → Order x y → decides (order_of X Y) (order_of x y) ≡ order_of (x + X * 10) (y + Y * 10)
-unfolding decides
-higher x y X Y a b (less h) o = rw (order_less h, order_less (let k : x + X * 10 < y + Y * 10 = omega arith in k))
-higher x y X Y a b (greater h) o = rw (order_greater h, order_greater (let k : y + Y * 10 < x + X * 10 = omega arith in k))
-higher x y X Y a b (equal h) (less k) = rw (order_equal h, order_less k, order_less (let l : x + X * 10 < y + Y * 10 = omega arith in l))
-higher x y X Y a b (equal h) (greater k) = rw (order_equal h, order_greater k, order_greater (let l : y + Y * 10 < x + X * 10 = omega arith in l))
-higher x y X Y a b (equal h) (equal k) = rw (order_equal h, order_equal k, order_equal (let l : x + X * 10 ≡ y + Y * 10 = omega arith in l))
+higher : (x y X Y : ℕ) → x ≤ 9 → y ≤ 9 → ordering_then (nat_cmp X Y) (nat_cmp x y) ≡ nat_cmp (x + X * 10) (y + Y * 10)
+higher x y X Y a b = nat_cmp_is (x + X * 10) (y + Y * 10) (ordering_then (nat_cmp X Y) (nat_cmp x y)) (go (nat_cmp X Y) (nat_cmp x y) (ranks X Y) (ranks x y))
+  where
+    go : (o p : Ordering) → MatchOrdering o (X < Y) (X ≡ Y) (Y < X) → MatchOrdering p (x < y) (x ≡ y) (y < x)
+        → MatchOrdering (ordering_then o p) (x + X * 10 < y + Y * 10) (x + X * 10 ≡ y + Y * 10) (y + Y * 10 < x + X * 10)
+    go Less p h k = omega arith
+    go Greater p h k = omega arith
+    go Equal Less h k = omega arith
+    go Equal Equal h k = omega arith
+    go Equal Greater h k = omega arith
 
 -- "compares them on the trees. All are tied to the whole number of grams" ([9])
-pub compares : (xs ys : List ℕ) → length xs ≡ length ys → Decimal xs → Decimal ys → compare_digits xs ys ≡ order_of (grams_of xs) (grams_of ys)
+pub compares : (xs ys : List ℕ) → length xs ≡ length ys → Decimal xs → Decimal ys → compare_digits xs ys ≡ nat_cmp (grams_of xs) (grams_of ys)
 unfolding compare_digits grams_of
-compares [] [] e a b = sym (order_equal refl)
+compares [] [] e a b = refl
 compares [] (y ∷ ys) e a b = absurd (omega arith)
 compares (x ∷ xs) [] e a b = absurd (omega arith)
 compares (x ∷ xs) (y ∷ ys) e a b =
-    rw (compares xs ys (omega arith) (λ i. a (suc i)) (λ i. b (suc i))) (higher x y (grams_of xs) (grams_of ys) (a 0) (b 0) (order (grams_of xs) (grams_of ys)) (order x y))
+    rw (compares xs ys (omega arith) (λ i. a (suc i)) (λ i. b (suc i))) (higher x y (grams_of xs) (grams_of ys) (a 0) (b 0))

@@ -7,6 +7,10 @@ use mathlib.Core.Logic.{◌↔◌}
 use mathlib.Core.Option.{Option, none, some}
 use native.Mathlib.Omega.{arith}
 use lib.Dec.{leb, ltb}
+use Rattle.std.specs.Prelude.{Result, Ok, Err}
+use Rattle.std.specs.Ordering.{nat_cmp, MatchOrdering}
+use Rattle.std.specs.declared.cmp.Ordering.{Ordering}
+use Rattle.std.specs.declared.cmp.Ordering.TheVariants.{Less, Equal, Greater}
 use borrow.Author.Tests.{lt-ltb, le-ltb, ltb-true, ltb-false, leb-true, leb-false}
 use Rattle.calculus.specs.Tree.{Tree}
 use Rattle.table.specs.Nodes.{Making, got, full, Sound, tree_at, lay}
@@ -21,14 +25,10 @@ use Rattle.table.proofs.Words.{zero_one}
 use Rattle.table.proofs.Making.{lay_full, lay_fills}
 use Rattle.table.proofs.Entry.{entered, enters, entry_lacks, lacks_entry}
 use Rattle.table.proofs.Laid.{laid_got, laid_full, full_outcome, placed_gives}
-use Rattle.weights.specs.Digits.{grams_of, digits_of, weight_tree, gram_digits, digits_of_weight, sum_digits, order_of}
+use Rattle.weights.specs.Digits.{grams_of, digits_of, weight_tree, gram_digits, digits_of_weight, sum_digits}
 use Rattle.weights.specs.Weights.{laid_digits, checked_digits, weight, add_weights, weigh, grams, compare_both, compare_weights}
 use Rattle.weights.specs.Claims.{IsWeight, AreWeights, LaidOut, WeightMade, WeightsAdded, Weighs, Compares}
-use Rattle.weights.specs.declared.Weighed.{Weighed}
-use Rattle.weights.specs.declared.Weighed.TheVariants as weighed
-use Rattle.weights.specs.declared.Ordered.{Ordered}
-use Rattle.weights.specs.declared.Ordered.TheVariants as ordered
-use Rattle.weights.proofs.Numbers.{Order, less, equal, greater, order, order_less, order_equal, order_greater}
+use Rattle.std.specs.Cmp.{nat_cmp_is, ranks}
 use Rattle.weights.proofs.Weights.{every_weight, weight_exactly, digits_weight, weight_digits, one_number_of, no_weight, gram_digits_lem, no_gram_digits, sum_digits_lem, sum_above, digits_order, no_sum}
 
 -- two trees are weights, or they are not both
@@ -222,27 +222,27 @@ module _ (w : List ℕ) (u v : ℕ) where
   grams_case = go (at_entry true w u []) (ltb v u) (digits_of_weight (tree_at w v)) refl refl refl
     where
       go : (o : Option Refusal) (x : Bool) (y : Option (List ℕ)) → at_entry true w u [] ≡ o → ltb v u ≡ x → digits_of_weight (tree_at w v) ≡ y
-          → Weighs w u v (unless o weighed.Refused (cond x (weigh y) (weighed.Refused Node)))
+          → Weighs w u v (unless o Err (cond x (weigh y) (Err Node)))
       go (some e) x y p q r = Weighs.of_entry (entry_lacks true w u [] p)
       go none false y p q r = Weighs.not_in_use p (ltb-false v u q)
       go none true none p q r = Weighs.not_weight p (ltb-true v u q) ((no_weight (tree_at w v)).0 r)
       go none true (some l) p q r = Weighs.weighs p (ltb-true v u q) (digits_weight (tree_at w v) r)
 
-  pub grams_gives : {a : Weighed} → Weighs w u v a → grams w u v ≡ a
+  pub grams_gives : {a : Result ℕ Refusal} → Weighs w u v a → grams w u v ≡ a
   unfolding grams weigh
   grams_gives (Weighs.of_entry l) = rw (lacks_entry l)
   grams_gives (Weighs.not_in_use p h) = rw (p, le-ltb v u h)
   grams_gives (Weighs.not_weight p h n) = rw (p, lt-ltb v u h, (no_weight (tree_at w v)).1 n)
   grams_gives (Weighs.weighs p h i) = rw (p, lt-ltb v u h, weight_digits i, i.grams)
 
-  pub grams_exactly : (a : Weighed) → (grams w u v ≡ a) ↔ Weighs w u v a
+  pub grams_exactly : (a : Result ℕ Refusal) → (grams w u v ≡ a) ↔ Weighs w u v a
   grams_exactly a = (λ e. subst (Weighs w u v) e grams_case, grams_gives)
 
   -- where grams are given, the tree is the weight of so many
-  pub grams_weight : {g : ℕ} → grams w u v ≡ weighed.Grams g → (at_entry true w u [] ≡ none) × (v < u) × IsWeight (tree_at w v) g
-  grams_weight {g} e = go ((grams_exactly (weighed.Grams g)).0 e) refl
+  pub grams_weight : {g : ℕ} → grams w u v ≡ Ok g → (at_entry true w u [] ≡ none) × (v < u) × IsWeight (tree_at w v) g
+  grams_weight {g} e = go ((grams_exactly (Ok g)).0 e) refl
     where
-      go : {a : Weighed} → Weighs w u v a → a ≡ weighed.Grams g → (at_entry true w u [] ≡ none) × (v < u) × IsWeight (tree_at w v) g
+      go : {a : Result ℕ Refusal} → Weighs w u v a → a ≡ Ok g → (at_entry true w u [] ≡ none) × (v < u) × IsWeight (tree_at w v) g
       go (Weighs.of_entry l) q = zero_one (cc)
       go (Weighs.not_in_use p h) q = zero_one (cc)
       go (Weighs.not_weight p h n) q = zero_one (cc)
@@ -254,62 +254,62 @@ module _ (w : List ℕ) (u a b : ℕ) where
   unfolding compare_weights
   compare_in_use c = rw (c.entered, lt-ltb a u c.first_in, lt-ltb b u c.second_in)
 
-  compare_order : Comparable w u a b → {g h : ℕ} → AreWeights w a b g h → compare_weights w u a b ≡ order_of g h
+  compare_order : Comparable w u a b → {g h : ℕ} → AreWeights w a b g h → compare_weights w u a b ≡ Ok (nat_cmp g h)
   unfolding compare_both
-  compare_order c r = compare_in_use c ∙ (rw (weight_digits r.one, weight_digits r.two) (digits_order r.one r.two))
+  compare_order c r = compare_in_use c ∙ (rw (weight_digits r.one, weight_digits r.two) (ap Ok (digits_order r.one r.two)))
 
-  compare_none : Comparable w u a b → ((g h : ℕ) → IsWeight (tree_at w a) g → IsWeight (tree_at w b) h → ⊥) → compare_weights w u a b ≡ ordered.Refused Weight
+  compare_none : Comparable w u a b → ((g h : ℕ) → IsWeight (tree_at w a) g → IsWeight (tree_at w b) h → ⊥) → compare_weights w u a b ≡ Err Weight
   unfolding compare_both
   compare_none c n = compare_in_use c ∙ go (digits_of_weight (tree_at w a)) (digits_of_weight (tree_at w b)) refl refl
     where
-      go : (x y : Option (List ℕ)) → digits_of_weight (tree_at w a) ≡ x → digits_of_weight (tree_at w b) ≡ y → compare_both x y ≡ ordered.Refused Weight
+      go : (x y : Option (List ℕ)) → digits_of_weight (tree_at w a) ≡ x → digits_of_weight (tree_at w b) ≡ y → compare_both x y ≡ Err Weight
       go none y p q = refl
       go (some l) none p q = refl
       go (some l) (some m) p q = absurd (n (grams_of l) (grams_of m) (digits_weight (tree_at w a) p) (digits_weight (tree_at w b) q))
 
-  compare_gives : {o : Ordered} → Compares w u a b o → compare_weights w u a b ≡ o
+  compare_gives : {o : Result Ordering Refusal} → Compares w u a b o → compare_weights w u a b ≡ o
   unfolding compare_weights
   compare_gives (Compares.of_entry l) = rw (lacks_entry l)
   compare_gives (Compares.not_in_use p n) = rw (p, out_of_use n)
   compare_gives (Compares.not_weights c n) = compare_none c (λ g h i j. n g h (record { one = i; two = j }))
-  compare_gives (Compares.less c r k) = compare_order c r ∙ order_less k
-  compare_gives (Compares.equal c r k) = compare_order c r ∙ order_equal k
-  compare_gives (Compares.greater c r k) = compare_order c r ∙ order_greater k
+  compare_gives (Compares.less c r k) = compare_order c r ∙ ap Ok (sym (nat_cmp_is _ _ Less k))
+  compare_gives (Compares.equal c r k) = compare_order c r ∙ ap Ok (sym (nat_cmp_is _ _ Equal k))
+  compare_gives (Compares.greater c r k) = compare_order c r ∙ ap Ok (sym (nat_cmp_is _ _ Greater k))
 
-  some_case : (o : Ordered) × Compares w u a b o
+  some_case : (o : Result Ordering Refusal) × Compares w u a b o
   some_case = go (at_entry true w u []) (ltb a u) (ltb b u) refl refl refl
     where
-      by : Comparable w u a b → {g h : ℕ} → AreWeights w a b g h → Order g h → (o : Ordered) × Compares w u a b o
-      by c r (less k) = (ordered.Less, Compares.less c r k)
-      by c r (equal k) = (ordered.Equal, Compares.equal c r k)
-      by c r (greater k) = (ordered.Greater, Compares.greater c r k)
+      by : Comparable w u a b → {g h : ℕ} → AreWeights w a b g h → (o : Ordering) → MatchOrdering o (g < h) (g ≡ h) (h < g) → Compares w u a b (Ok o)
+      by c r Less k = Compares.less c r k
+      by c r Equal k = Compares.equal c r k
+      by c r Greater k = Compares.greater c r k
 
-      weights : Comparable w u a b → Both (tree_at w a) (tree_at w b) → (o : Ordered) × Compares w u a b o
-      weights c (are {g} {h} i j) = by c (record { one = i; two = j }) (order g h)
-      weights c (are_not n) = (ordered.Refused Weight, Compares.not_weights c (λ g h r. n g h r.one r.two))
+      weights : Comparable w u a b → Both (tree_at w a) (tree_at w b) → (o : Result Ordering Refusal) × Compares w u a b o
+      weights c (are {g} {h} i j) = (Ok (nat_cmp g h), by c (record { one = i; two = j }) (nat_cmp g h) (ranks g h))
+      weights c (are_not n) = (Err Weight, Compares.not_weights c (λ g h r. n g h r.one r.two))
 
-      go : (o : Option Refusal) (x y : Bool) → at_entry true w u [] ≡ o → ltb a u ≡ x → ltb b u ≡ y → (o : Ordered) × Compares w u a b o
-      go (some e) x y p q r = (ordered.Refused e, Compares.of_entry (entry_lacks true w u [] p))
-      go none false y p q r = (ordered.Refused Node, Compares.not_in_use p (λ h k. omega (arith, ltb-false a u q)))
-      go none true false p q r = (ordered.Refused Node, Compares.not_in_use p (λ h k. omega (arith, ltb-false b u r)))
+      go : (o : Option Refusal) (x y : Bool) → at_entry true w u [] ≡ o → ltb a u ≡ x → ltb b u ≡ y → (o : Result Ordering Refusal) × Compares w u a b o
+      go (some e) x y p q r = (Err e, Compares.of_entry (entry_lacks true w u [] p))
+      go none false y p q r = (Err Node, Compares.not_in_use p (λ h k. omega (arith, ltb-false a u q)))
+      go none true false p q r = (Err Node, Compares.not_in_use p (λ h k. omega (arith, ltb-false b u r)))
       go none true true p q r = weights (record { entered = p; first_in = ltb-true a u q; second_in = ltb-true b u r }) (both (tree_at w a) (tree_at w b))
 
-  pub compare_exactly : (o : Ordered) → (compare_weights w u a b ≡ o) ↔ Compares w u a b o
+  pub compare_exactly : (o : Result Ordering Refusal) → (compare_weights w u a b ≡ o) ↔ Compares w u a b o
   compare_exactly o = (λ e. subst (Compares w u a b) (sym (compare_gives some_case.1) ∙ e) some_case.1, compare_gives)
 
 -- the grams of a node that was laid out as a weight
-laid_grams : {w : List ℕ} {u v u' g : ℕ} {x : Tree} {o : Outcome Made} → Lays w u x o v u' → IsWeight x g → grams o.table u' v ≡ weighed.Grams g
+laid_grams : {w : List ℕ} {u v u' g : ℕ} {x : Tree} {o : Outcome Made} → Lays w u x o v u' → IsWeight x g → grams o.table u' v ≡ Ok g
 laid_grams {w} {u} {v} {u'} {g} {x} {o} l i =
     let p = enters {s = []} (record { table = l.places.fine; stack = omega arith; limits_kept = refl }) in
     grams_gives o.table u' v (Weighs.weighs p l.places.inside (subst (λ (t : Tree). IsWeight t g) (sym l.places.tree) i))
 
 -- "turns grams to trees and back" ([9])
-pub weight_then_grams : (w : List ℕ) (u g : ℕ) {v u' : ℕ} → (weight w u g).answer ≡ made.Node v u' → grams (weight w u g).table u' v ≡ weighed.Grams g
+pub weight_then_grams : (w : List ℕ) (u g : ℕ) {v u' : ℕ} → (weight w u g).answer ≡ made.Node v u' → grams (weight w u g).table u' v ≡ Ok g
 weight_then_grams w u g q = let y = weight_gives w u g q in laid_grams y.1 (every_weight g y.0)
 
 -- "so that a customer's total in trees is the total on the invoice" ([9])
-pub total_in_grams : (w : List ℕ) (u a b : ℕ) {v u' g h : ℕ} → grams w u a ≡ weighed.Grams g → grams w u b ≡ weighed.Grams h → (add_weights w u a b).answer ≡ made.Node v u'
-    → grams (add_weights w u a b).table u' v ≡ weighed.Grams (g + h)
+pub total_in_grams : (w : List ℕ) (u a b : ℕ) {v u' g h : ℕ} → grams w u a ≡ Ok g → grams w u b ≡ Ok h → (add_weights w u a b).answer ≡ made.Node v u'
+    → grams (add_weights w u a b).table u' v ≡ Ok (g + h)
 total_in_grams w u a b {v} {u'} {g} {h} p q r =
     let y = add_gives w u a b r (record { one = (grams_weight w u a p).2; two = (grams_weight w u b q).2 }) in
     laid_grams y.1 (every_weight (g + h) y.0)

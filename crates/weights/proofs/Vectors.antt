@@ -5,14 +5,14 @@ use mathlib.Core.Path.{◌≡◌, refl}
 use mathlib.Core.List.{[], ◌∷◌, ◌++◌, map}
 use mathlib.Core.Option.{none, some}
 use lib.ListN.{replicate}
+use Rattle.std.specs.Prelude.{Ok, Err}
+use Rattle.std.specs.declared.cmp.Ordering.TheVariants.{Less, Equal, Greater}
 use Rattle.calculus.specs.Tree.{leaf, stem, fork}
 use Rattle.table.specs.Refusal.{number}
 use Rattle.table.specs.declared.Refusal.TheVariants.{Weight}
 use Rattle.ternary.specs.Text.{text}
-use Rattle.weights.specs.Digits.{digit_tree, list_tree, digits_of, weight_tree, gram_digits, digit_after, digit_of, before, digits_in, digits_of_weight, add_digits, order_of, decides, compare_digits}
+use Rattle.weights.specs.Digits.{digit_tree, list_tree, digits_of, weight_tree, gram_digits, digit_after, digit_of, before, digits_in, digits_of_weight, add_digits, compare_digits}
 use Rattle.weights.specs.Weights.{weighed_numbers, ordered_numbers}
-use Rattle.weights.specs.declared.Weighed.TheVariants as weighed
-use Rattle.weights.specs.declared.Ordered.TheVariants as ordered
 
 -- the digits 0, 1 and 2: Δ, KΔ and K(KΔ)
 pub digits : map (λ (d : ℕ). text (digit_tree d)) (0 ∷ 1 ∷ 2 ∷ []) ≡ (48 ∷ []) ∷ (50 ∷ 48 ∷ 48 ∷ []) ∷ (50 ∷ 48 ∷ 50 ∷ 48 ∷ 48 ∷ []) ∷ []
@@ -45,12 +45,12 @@ unfolding add_digits before
 sums = (refl, refl, refl)
 
 -- 19 is less than 21, 21 greater than 19, and 12 equal to itself
-pub orders : (compare_digits (9 ∷ 1 ∷ []) (1 ∷ 2 ∷ []) ≡ ordered.Less) × (compare_digits (1 ∷ 2 ∷ []) (9 ∷ 1 ∷ []) ≡ ordered.Greater) × (compare_digits (2 ∷ 1 ∷ []) (2 ∷ 1 ∷ []) ≡ ordered.Equal)
-unfolding compare_digits decides order_of
+pub orders : (compare_digits (9 ∷ 1 ∷ []) (1 ∷ 2 ∷ []) ≡ Less) × (compare_digits (1 ∷ 2 ∷ []) (9 ∷ 1 ∷ []) ≡ Greater) × (compare_digits (2 ∷ 1 ∷ []) (2 ∷ 1 ∷ []) ≡ Equal)
+unfolding compare_digits
 orders = (refl, refl, refl)
 
 -- the numbers of the answers
-pub answers : (map weighed_numbers (weighed.Grams 1250 ∷ weighed.Refused Weight ∷ []) ≡ (0 ∷ 1250 ∷ []) ∷ (14 ∷ 0 ∷ []) ∷ [])
-    × (map ordered_numbers (ordered.Less ∷ ordered.Equal ∷ ordered.Greater ∷ ordered.Refused Weight ∷ []) ≡ (0 ∷ 0 ∷ []) ∷ (0 ∷ 1 ∷ []) ∷ (0 ∷ 2 ∷ []) ∷ (14 ∷ 0 ∷ []) ∷ [])
+pub answers : (map weighed_numbers (Ok 1250 ∷ Err Weight ∷ []) ≡ (0 ∷ 1250 ∷ []) ∷ (14 ∷ 0 ∷ []) ∷ [])
+    × (map ordered_numbers (Ok Less ∷ Ok Equal ∷ Ok Greater ∷ Err Weight ∷ []) ≡ (0 ∷ 0 ∷ []) ∷ (0 ∷ 1 ∷ []) ∷ (0 ∷ 2 ∷ []) ∷ (14 ∷ 0 ∷ []) ∷ [])
 unfolding weighed_numbers ordered_numbers number
 answers = (refl, refl)

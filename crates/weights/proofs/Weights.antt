@@ -6,10 +6,11 @@ use mathlib.Core.Logic.{◌↔◌}
 use mathlib.Core.Option.{Option, none, some}
 use native.Mathlib.Omega.{arith}
 use lib.ListN.{length}
+use Rattle.std.specs.Ordering.{nat_cmp}
 use borrow.Author.Tests.{le-leb, lt-leb}
 use Rattle.calculus.specs.Tree.{Tree, size}
 use Rattle.table.proofs.Words.{zero_one}
-use Rattle.weights.specs.Digits.{list_tree, grams_of, digits_of, weight_tree, gram_digits, digits_in, digits_of_weight, sum_digits, order_of, compare_digits}
+use Rattle.weights.specs.Digits.{list_tree, grams_of, digits_of, weight_tree, gram_digits, digits_in, digits_of_weight, sum_digits, compare_digits}
 use Rattle.weights.specs.Claims.{NineDigits, IsWeight}
 use Rattle.weights.proofs.Numbers.{tens, grams_below, digits_back, grams_back, digits_many, digits_decimal, adds, adds_above, compares}
 use Rattle.weights.proofs.Trees.{list_read, list_only, list_size}
@@ -93,7 +94,7 @@ module _ {x y : Tree} {g h : ℕ} (i : IsWeight x g) (j : IsWeight y h) where
       rw (weight_digits i, weight_digits j, adds_above i.digits j.digits same_length 0 b)
 
   -- and compared
-  pub digits_order : compare_digits i.digits j.digits ≡ order_of g h
+  pub digits_order : compare_digits i.digits j.digits ≡ nat_cmp g h
   digits_order = rw (i.grams, j.grams) (compares i.digits j.digits same_length i.nine_digits.decimal j.nine_digits.decimal)
 
 -- where one of two trees is not a weight

@@ -1,5 +1,7 @@
 -- What is claimed of weights, in whole grams and without the definitions that compute on digits ([9]). Assumes nothing: these are definitions.
-use Rattle.std.specs.Prelude.{ℕ, ◌+◌, ◌*◌, ◌≤◌, ◌<◌, ◌≡◌, true, List, [], length, get_or}
+use Rattle.std.specs.Prelude.{ℕ, ◌+◌, ◌*◌, ◌≤◌, ◌<◌, ◌≡◌, true, List, [], length, get_or, Result, Ok, Err}
+use Rattle.std.specs.declared.cmp.Ordering.{Ordering}
+use Rattle.std.specs.declared.cmp.Ordering.TheVariants.{Less, Equal, Greater}
 use Rattle.std.proofs.Math.Option.{none}
 use Rattle.calculus.specs.Tree.{Tree}
 use Rattle.table.specs.Nodes.{Table, Placed, got, capacity, tree_at, lay, cleared}
@@ -11,10 +13,6 @@ use Rattle.table.specs.declared.Refusal.TheVariants.{Node, Nodes, Weight}
 use Rattle.table.specs.declared.Made.{Made}
 use Rattle.table.specs.declared.Made.TheVariants as made
 use Rattle.weights.specs.Digits.{list_tree, grams_of}
-use Rattle.weights.specs.declared.Weighed.{Weighed}
-use Rattle.weights.specs.declared.Weighed.TheVariants as weighed
-use Rattle.weights.specs.declared.Ordered.{Ordered}
-use Rattle.weights.specs.declared.Ordered.TheVariants as ordered
 
 -- each number is a decimal digit
 abbrev pub Decimal : List ℕ → Type 0
@@ -59,17 +57,17 @@ pub data WeightsAdded (w : List ℕ) (u a b : ℕ) (o : Outcome Made) : Type 0 w
   laid_out : Comparable w u a b → {g h : ℕ} → AreWeights w a b g h → {x : Tree} → IsWeight x (g + h) → LaidOut w u x o → WeightsAdded w u a b o
 
 -- Each answer of `grams` with its condition
-pub data Weighs (w : List ℕ) (u v : ℕ) : Weighed → Type 0 where
-  of_entry : {e : Refusal} → EntryLacks true w u [] e → Weighs w u v (weighed.Refused e)
-  not_in_use : at_entry true w u [] ≡ none → u ≤ v → Weighs w u v (weighed.Refused Node)
-  not_weight : at_entry true w u [] ≡ none → v < u → ((g : ℕ) → IsWeight (tree_at w v) g → ⊥) → Weighs w u v (weighed.Refused Weight)
-  weighs : at_entry true w u [] ≡ none → v < u → {g : ℕ} → IsWeight (tree_at w v) g → Weighs w u v (weighed.Grams g)
+pub data Weighs (w : List ℕ) (u v : ℕ) : Result ℕ Refusal → Type 0 where
+  of_entry : {e : Refusal} → EntryLacks true w u [] e → Weighs w u v (Err e)
+  not_in_use : at_entry true w u [] ≡ none → u ≤ v → Weighs w u v (Err Node)
+  not_weight : at_entry true w u [] ≡ none → v < u → ((g : ℕ) → IsWeight (tree_at w v) g → ⊥) → Weighs w u v (Err Weight)
+  weighs : at_entry true w u [] ≡ none → v < u → {g : ℕ} → IsWeight (tree_at w v) g → Weighs w u v (Ok g)
 
 -- Each answer of `compare_weights` with its condition
-pub data Compares (w : List ℕ) (u a b : ℕ) : Ordered → Type 0 where
-  of_entry : {e : Refusal} → EntryLacks true w u [] e → Compares w u a b (ordered.Refused e)
-  not_in_use : at_entry true w u [] ≡ none → (a < u → b < u → ⊥) → Compares w u a b (ordered.Refused Node)
-  not_weights : Comparable w u a b → ((g h : ℕ) → AreWeights w a b g h → ⊥) → Compares w u a b (ordered.Refused Weight)
-  less : Comparable w u a b → {g h : ℕ} → AreWeights w a b g h → g < h → Compares w u a b ordered.Less
-  equal : Comparable w u a b → {g h : ℕ} → AreWeights w a b g h → g ≡ h → Compares w u a b ordered.Equal
-  greater : Comparable w u a b → {g h : ℕ} → AreWeights w a b g h → h < g → Compares w u a b ordered.Greater
+pub data Compares (w : List ℕ) (u a b : ℕ) : Result Ordering Refusal → Type 0 where
+  of_entry : {e : Refusal} → EntryLacks true w u [] e → Compares w u a b (Err e)
+  not_in_use : at_entry true w u [] ≡ none → (a < u → b < u → ⊥) → Compares w u a b (Err Node)
+  not_weights : Comparable w u a b → ((g h : ℕ) → AreWeights w a b g h → ⊥) → Compares w u a b (Err Weight)
+  less : Comparable w u a b → {g h : ℕ} → AreWeights w a b g h → g < h → Compares w u a b (Ok Less)
+  equal : Comparable w u a b → {g h : ℕ} → AreWeights w a b g h → g ≡ h → Compares w u a b (Ok Equal)
+  greater : Comparable w u a b → {g h : ℕ} → AreWeights w a b g h → h < g → Compares w u a b (Ok Greater)

@@ -1,10 +1,11 @@
 -- Decimal digits and their trees ([9]): the tree of a number of grams, the digits out of a tree, and adding and comparing digit by digit. Assumes nothing:
 -- these are definitions.
-use Rattle.std.specs.Prelude.{ℕ, zero, suc, ◌+◌, ◌*◌, ◌/◌, ◌%◌, cond, List, [], ◌∷◌, leb, ltb}
+use Rattle.std.specs.Prelude.{ℕ, zero, suc, ◌+◌, ◌*◌, ◌/◌, ◌%◌, cond, List, [], ◌∷◌, leb}
+use Rattle.std.specs.Ordering.{ordering_then, nat_cmp}
+use Rattle.std.specs.declared.cmp.Ordering.{Ordering}
+use Rattle.std.specs.declared.cmp.Ordering.TheVariants.{Equal}
 use Rattle.std.proofs.Math.Option.{Option, none, some}
 use Rattle.calculus.specs.Tree.{Tree, leaf, stem, fork}
-use Rattle.weights.specs.declared.Ordered.{Ordered}
-use Rattle.weights.specs.declared.Ordered.TheVariants.{Less, Equal, Greater, Refused}
 
 -- "digit d is K applied d times starting at Δ" ([9]): K is ΔΔ, and Kx is ΔΔx; the theorem `digit_applied` says so by the five rules. A digit is the paper's
 -- term for such a tree.
@@ -79,19 +80,8 @@ sum_digits none m = none
 sum_digits (some l) none = none
 sum_digits (some l) (some m) = add_digits l m 0
 
--- what the number x is beside y
-unfoldable pub order_of : ℕ → ℕ → Ordered
-order_of x y = cond (ltb x y) Less (cond (ltb y x) Greater Equal)
-
--- higher digits decide, unless they are equal
-unfoldable pub decides : Ordered → Ordered → Ordered
-decides Less lower = Less
-decides Equal lower = lower
-decides Greater lower = Greater
-decides (Refused e) lower = Refused e
-
 -- two lists of digits, lowest first, compared: the highest that differs decides
-unfoldable pub compare_digits : List ℕ → List ℕ → Ordered
+unfoldable pub compare_digits : List ℕ → List ℕ → Ordering
 compare_digits [] ys = Equal
 compare_digits (x ∷ xs) [] = Equal
-compare_digits (x ∷ xs) (y ∷ ys) = decides (compare_digits xs ys) (order_of x y)
+compare_digits (x ∷ xs) (y ∷ ys) = ordering_then (compare_digits xs ys) (nat_cmp x y)

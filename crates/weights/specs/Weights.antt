@@ -1,17 +1,16 @@
 -- What the operations on weights answer, with the whole table where they make nodes ([9]). There is no stack. Assumes nothing: these are definitions.
-use Rattle.std.specs.Prelude.{ℕ, true, cond, ◌&&◌, List, [], ◌∷◌, ltb}
+use Rattle.std.specs.Prelude.{ℕ, true, cond, ◌&&◌, List, [], ◌∷◌, ltb, Result, Ok, Err}
+use Rattle.std.specs.declared.cmp.Ordering.{Ordering}
+use Rattle.std.specs.declared.cmp.Ordering.TheVariants.{Less, Equal, Greater}
 use Rattle.std.proofs.Math.Option.{Option, none, some}
 use Rattle.table.specs.Nodes.{tree_at}
 use Rattle.table.specs.Outcome.{Outcome, whole, at_entry, unless, laid}
 use Rattle.table.specs.Refusal.{number}
+use Rattle.table.specs.declared.Refusal.{Refusal}
 use Rattle.table.specs.declared.Refusal.TheVariants.{Node, Weight}
 use Rattle.table.specs.declared.Made.{Made}
 use Rattle.table.specs.declared.Made.TheVariants as made
 use Rattle.weights.specs.Digits.{list_tree, grams_of, gram_digits, digits_of_weight, sum_digits, compare_digits}
-use Rattle.weights.specs.declared.Weighed.{Weighed}
-use Rattle.weights.specs.declared.Weighed.TheVariants as weighed
-use Rattle.weights.specs.declared.Ordered.{Ordered}
-use Rattle.weights.specs.declared.Ordered.TheVariants as ordered
 
 -- "Checks: 14, not a weight or a sum above the top [..]; then 8." ([9]): the list of digits laid out, where there are digits. "New nodes are wanted in the
 -- order in which Read would take them from the list's text": the theorem `weight_as_read`.
@@ -34,33 +33,33 @@ add_weights w u a b =
     (cond (ltb a u && ltb b u) (laid_digits w u (sum_digits (digits_of_weight (tree_at w a)) (digits_of_weight (tree_at w b)))) (whole (made.Refused Node) w []))
 
 -- the grams of a weight's digits, or 14
-unfoldable pub weigh : Option (List ℕ) → Weighed
-weigh none = weighed.Refused Weight
-weigh (some l) = weighed.Grams (grams_of l)
+unfoldable pub weigh : Option (List ℕ) → Result ℕ Refusal
+weigh none = Err Weight
+weigh (some l) = Ok (grams_of l)
 
 -- "and back": the grams of the weight at node v
-unfoldable pub grams : List ℕ → ℕ → ℕ → Weighed
-grams w u v = unless (at_entry true w u []) weighed.Refused (cond (ltb v u) (weigh (digits_of_weight (tree_at w v))) (weighed.Refused Node))
+unfoldable pub grams : List ℕ → ℕ → ℕ → Result ℕ Refusal
+grams w u v = unless (at_entry true w u []) Err (cond (ltb v u) (weigh (digits_of_weight (tree_at w v))) (Err Node))
 
 -- the digits of two weights compared, or 14
-unfoldable pub compare_both : Option (List ℕ) → Option (List ℕ) → Ordered
-compare_both none m = ordered.Refused Weight
-compare_both (some l) none = ordered.Refused Weight
-compare_both (some l) (some m) = compare_digits l m
+unfoldable pub compare_both : Option (List ℕ) → Option (List ℕ) → Result Ordering Refusal
+compare_both none m = Err Weight
+compare_both (some l) none = Err Weight
+compare_both (some l) (some m) = Ok (compare_digits l m)
 
 -- "and compares them on the trees" ([9]): the weight at node a beside that at node b
-unfoldable pub compare_weights : List ℕ → ℕ → ℕ → ℕ → Ordered
+unfoldable pub compare_weights : List ℕ → ℕ → ℕ → ℕ → Result Ordering Refusal
 compare_weights w u a b =
-    unless (at_entry true w u []) ordered.Refused
-    (cond (ltb a u && ltb b u) (compare_both (digits_of_weight (tree_at w a)) (digits_of_weight (tree_at w b))) (ordered.Refused Node))
+    unless (at_entry true w u []) Err
+    (cond (ltb a u && ltb b u) (compare_both (digits_of_weight (tree_at w a)) (digits_of_weight (tree_at w b))) (Err Node))
 
 -- the numbers of the answers: the refusal and the grams; the refusal and 0 for less, 1 for equal, 2 for greater
-unfoldable pub weighed_numbers : Weighed → List ℕ
-weighed_numbers (weighed.Grams g) = 0 ∷ g ∷ []
-weighed_numbers (weighed.Refused e) = number e ∷ 0 ∷ []
+unfoldable pub weighed_numbers : Result ℕ Refusal → List ℕ
+weighed_numbers (Ok g) = 0 ∷ g ∷ []
+weighed_numbers (Err e) = number e ∷ 0 ∷ []
 
-unfoldable pub ordered_numbers : Ordered → List ℕ
-ordered_numbers ordered.Less = 0 ∷ 0 ∷ []
-ordered_numbers ordered.Equal = 0 ∷ 1 ∷ []
-ordered_numbers ordered.Greater = 0 ∷ 2 ∷ []
-ordered_numbers (ordered.Refused e) = number e ∷ 0 ∷ []
+unfoldable pub ordered_numbers : Result Ordering Refusal → List ℕ
+ordered_numbers (Ok Less) = 0 ∷ 0 ∷ []
+ordered_numbers (Ok Equal) = 0 ∷ 1 ∷ []
+ordered_numbers (Ok Greater) = 0 ∷ 2 ∷ []
+ordered_numbers (Err e) = number e ∷ 0 ∷ []

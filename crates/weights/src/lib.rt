@@ -2,20 +2,11 @@
 // operations that only read are in `weighing`, those that make nodes in `weight_nodes`.
 #![tactic(auto)]
 
-use table::Refusal;
+ghost use Rattle.weights.specs.Claims.{Decimal};
 
-// The answer of `grams`.
+// The nine decimal digits of a weight, lowest first.
 #[derive(Clone, Copy)]
-pub enum Weighed {
-    Grams(usize),
-    Refused(Refusal),
-}
-
-// The answer of `compare_weights`: what the first weight is beside the second.
-#[derive(Clone, Copy)]
-pub enum Ordered {
-    Less,
-    Equal,
-    Greater,
-    Refused(Refusal),
+pub struct Digits {
+    pub digits: [usize; 9],
+    pub ghost decimal: { Decimal digits },
 }

@@ -1,6 +1,6 @@
 -- `weight_digits::read_digits` meets its contract. The loop's invariant: the digits of the node are those that are read and then those of the list at the
 -- node at hand. Assumes nothing.
-use Prim.Native.Nat.{◌-◌, ◌≤◌}
+use Prim.Native.Nat.{◌-◌}
 use mathlib.Core.Path.{◌≡◌}
 use lib.ListN.{take}
 use Rattle.table.specs.Nodes.{tree_at}
@@ -11,8 +11,8 @@ use Rattle.weights.proofs.Places.{after}
 use Rattle.weight_digits.proofs.read_digits.Given as goal
 
 abbrev pub invariant-loop-i : goal.invariant-loop-i
-invariant-loop-i l =
-    (l.i ≤ 9) × NineDigits l.digits × (InUse l.table l.node → InUse l.table l.at × (digits_of_weight (tree_at l.table l.node) ≡ after (take l.i l.digits) (digits_in (9 - l.i) (tree_at l.table l.at))))
-
-abbrev pub decreases-loop-i : goal.decreases-loop-i
-decreases-loop-i l = 9 - l.i
+invariant-loop-i l = record {
+  nine : NineDigits l.digits;
+  read : InUse l.table l.node
+      → InUse l.table l.at × (digits_of_weight (tree_at l.table l.node) ≡ after (take l.i l.digits) (digits_in (9 - l.i) (tree_at l.table l.at)));
+}
