@@ -16,11 +16,11 @@ use Rattle.calculus.specs.Tree.{Tree}
 use Rattle.table.specs.Nodes.{Making, got, full, Sound, tree_at, lay}
 use Rattle.table.specs.Outcome.{Outcome, whole, at_entry, unless, laid}
 use Rattle.table.specs.Claims.{Lays}
+use Rattle.table.specs.Refusal.{made, no_node}
 use Rattle.table.specs.Same.{Comparable}
 use Rattle.table.specs.declared.Refusal.{Refusal}
 use Rattle.table.specs.declared.Refusal.TheVariants.{Node, Weight}
 use Rattle.table.specs.declared.Made.{Made}
-use Rattle.table.specs.declared.Made.TheVariants as made
 use Rattle.table.proofs.Words.{zero_one}
 use Rattle.table.proofs.Making.{lay_full, lay_fills}
 use Rattle.table.proofs.Entry.{entered, enters, entry_lacks, lacks_entry}
@@ -63,12 +63,12 @@ module _ (w : List ℕ) (u : ℕ) (x : Tree) (s : Sound (record { words = w; use
       go (got m) e = LaidOut.enough e (laid_got w u [] x e)
       go (full z) e = LaidOut.no_nodes ((lay_full (record { words = w; used = u }) x z).0 e) (laid_full w u [] x e ∙ full_outcome w u [] (lay_fills s x e))
 
-  laid_only : {o : Outcome Made} → LaidOut w u x o → laid w u [] x ≡ o
+  laid_only : {o : Outcome (Result Made Refusal)} → LaidOut w u x o → laid w u [] x ≡ o
   laid_only (LaidOut.no_nodes {z = z} k e) = let f = (lay_full (record { words = w; used = u }) x z).1 k in laid_full w u [] x f ∙ full_outcome w u [] (lay_fills s x f) ∙ sym e
   laid_only (LaidOut.enough k e) = laid_got w u [] x k ∙ sym e
 
   -- the node that is given
-  laid_node : {o : Outcome Made} → LaidOut w u x o → {v u' : ℕ} → o.answer ≡ made.Node v u' → Lays w u x o v u'
+  laid_node : {o : Outcome (Result Made Refusal)} → LaidOut w u x o → {v u' : ℕ} → o.answer ≡ made v u' → Lays w u x o v u'
   laid_node (LaidOut.no_nodes k e) {v} {u'} q = zero_one (cc)
   laid_node (LaidOut.enough k e) {v} {u'} q = placed_gives w u [] x v u' s k e q
 
@@ -77,7 +77,7 @@ laid_weight : (w : List ℕ) (u : ℕ) {x : Tree} {g : ℕ} → IsWeight x g →
 unfolding laid_digits weight_tree
 laid_weight w u {x} {g} i = ap (laid w u []) (sym ((weight_exactly x g).0 i).1)
 
-laid_none : (w : List ℕ) (u : ℕ) → laid_digits w u none ≡ whole (made.Refused Weight) w []
+laid_none : (w : List ℕ) (u : ℕ) → laid_digits w u none ≡ whole (no_node Weight) w []
 unfolding laid_digits
 laid_none w u = refl
 
@@ -86,7 +86,7 @@ sound_table w u p = (entered true w u [] p).table
 
 -- digits laid out after 1 and 2
 module _ (w : List ℕ) (u : ℕ) (o : Option (List ℕ)) where
-  pub checked_refused : {e : Refusal} → at_entry true w u [] ≡ some e → checked_digits w u o ≡ whole (made.Refused e) w []
+  pub checked_refused : {e : Refusal} → at_entry true w u [] ≡ some e → checked_digits w u o ≡ whole (no_node e) w []
   unfolding checked_digits
   checked_refused p = rw p
 
@@ -100,10 +100,10 @@ module _ (w : List ℕ) (u g : ℕ) where
   unfolding weight
   weight_checked e = ap (checked_digits w u) (sym e)
 
-  weight_refused : {e : Refusal} → at_entry true w u [] ≡ some e → weight w u g ≡ whole (made.Refused e) w []
+  weight_refused : {e : Refusal} → at_entry true w u [] ≡ some e → weight w u g ≡ whole (no_node e) w []
   weight_refused p = sym (weight_checked refl) ∙ checked_refused w u (gram_digits g) p
 
-  weight_above : at_entry true w u [] ≡ none → 999999999 < g → weight w u g ≡ whole (made.Refused Weight) w []
+  weight_above : at_entry true w u [] ≡ none → 999999999 < g → weight w u g ≡ whole (no_node Weight) w []
   weight_above p h = sym (weight_checked (no_gram_digits g h)) ∙ checked_entered w u none p ∙ laid_none w u
 
   weight_laid : at_entry true w u [] ≡ none → {x : Tree} → IsWeight x g → weight w u g ≡ laid w u [] x
@@ -119,7 +119,7 @@ module _ (w : List ℕ) (u g : ℕ) where
           WeightMade.laid_out p i (subst (LaidOut w u (weight_tree g)) (sym (weight_laid p i)) (laid_case w u (weight_tree g) (sound_table w u p)))
       go none false p q = let h = leb-false g 999999999 q in WeightMade.above_top p h (weight_above p h)
 
-  pub weight_made_exactly : (o : Outcome Made) → (weight w u g ≡ o) ↔ WeightMade w u g o
+  pub weight_made_exactly : (o : Outcome (Result Made Refusal)) → (weight w u g ≡ o) ↔ WeightMade w u g o
   weight_made_exactly o = (λ e. subst (WeightMade w u g) e weight_case, only)
     where
       only : WeightMade w u g o → weight w u g ≡ o
@@ -128,7 +128,7 @@ module _ (w : List ℕ) (u g : ℕ) where
       only (WeightMade.laid_out p {x = x} i k) = weight_laid p i ∙ laid_only w u x (sound_table w u p) k
 
   -- the node that is given is the weight's
-  pub weight_gives : {v u' : ℕ} → (weight w u g).answer ≡ made.Node v u' → (g ≤ 999999999) × Lays w u (weight_tree g) (weight w u g) v u'
+  pub weight_gives : {v u' : ℕ} → (weight w u g).answer ≡ made v u' → (g ≤ 999999999) × Lays w u (weight_tree g) (weight w u g) v u'
   weight_gives {v} {u'} q = go weight_case
     where
       go : WeightMade w u g (weight w u g) → (g ≤ 999999999) × Lays w u (weight_tree g) (weight w u g) v u'
@@ -140,11 +140,11 @@ module _ (w : List ℕ) (u g : ℕ) where
 
 -- "adds two weights" ([9]): 1, 2, 3, 14 and 8, each exactly on its condition, and else the node of the sum
 module _ (w : List ℕ) (u a b : ℕ) where
-  pub add_refused : {e : Refusal} → at_entry true w u [] ≡ some e → add_weights w u a b ≡ whole (made.Refused e) w []
+  pub add_refused : {e : Refusal} → at_entry true w u [] ≡ some e → add_weights w u a b ≡ whole (no_node e) w []
   unfolding add_weights
   add_refused p = rw p
 
-  pub add_no_node : at_entry true w u [] ≡ none → (a < u → b < u → ⊥) → add_weights w u a b ≡ whole (made.Refused Node) w []
+  pub add_no_node : at_entry true w u [] ≡ none → (a < u → b < u → ⊥) → add_weights w u a b ≡ whole (no_node Node) w []
   unfolding add_weights
   add_no_node p n = rw (p, out_of_use n)
 
@@ -152,7 +152,7 @@ module _ (w : List ℕ) (u a b : ℕ) where
   unfolding add_weights
   add_in_use c = rw (c.entered, lt-ltb a u c.first_in, lt-ltb b u c.second_in)
 
-  pub add_no_digits : Comparable w u a b → sum_digits (digits_of_weight (tree_at w a)) (digits_of_weight (tree_at w b)) ≡ none → add_weights w u a b ≡ whole (made.Refused Weight) w []
+  pub add_no_digits : Comparable w u a b → sum_digits (digits_of_weight (tree_at w a)) (digits_of_weight (tree_at w b)) ≡ none → add_weights w u a b ≡ whole (no_node Weight) w []
   add_no_digits c e = add_in_use c ∙ ap (laid_digits w u) e ∙ laid_none w u
 
   -- digits that are those of the sum, once the table has passed 1 and 2
@@ -189,7 +189,7 @@ module _ (w : List ℕ) (u a b : ℕ) where
       go none true false p q r = out p (λ h k. omega (arith, ltb-false b u r))
       go none true true p q r = weights (record { entered = p; first_in = ltb-true a u q; second_in = ltb-true b u r }) (both (tree_at w a) (tree_at w b))
 
-  pub add_exactly : (o : Outcome Made) → (add_weights w u a b ≡ o) ↔ WeightsAdded w u a b o
+  pub add_exactly : (o : Outcome (Result Made Refusal)) → (add_weights w u a b ≡ o) ↔ WeightsAdded w u a b o
   add_exactly o = (λ e. subst (WeightsAdded w u a b) e add_case, only)
     where
       only : WeightsAdded w u a b o → add_weights w u a b ≡ o
@@ -200,7 +200,7 @@ module _ (w : List ℕ) (u a b : ℕ) where
       only (WeightsAdded.laid_out c r {x = x} i k) = add_laid c r i ∙ laid_only w u x (sound_table w u c.entered) k
 
   -- the node that is given is that of the sum
-  pub add_gives : {v u' g h : ℕ} → (add_weights w u a b).answer ≡ made.Node v u' → AreWeights w a b g h
+  pub add_gives : {v u' g h : ℕ} → (add_weights w u a b).answer ≡ made v u' → AreWeights w a b g h
       → (g + h ≤ 999999999) × Lays w u (weight_tree (g + h)) (add_weights w u a b) v u'
   add_gives {v} {u'} {g} {h} q r = go add_case
     where
@@ -298,17 +298,17 @@ module _ (w : List ℕ) (u a b : ℕ) where
   compare_exactly o = (λ e. subst (Compares w u a b) (sym (compare_gives some_case.1) ∙ e) some_case.1, compare_gives)
 
 -- the grams of a node that was laid out as a weight
-laid_grams : {w : List ℕ} {u v u' g : ℕ} {x : Tree} {o : Outcome Made} → Lays w u x o v u' → IsWeight x g → grams o.table u' v ≡ Ok g
+laid_grams : {w : List ℕ} {u v u' g : ℕ} {x : Tree} {o : Outcome (Result Made Refusal)} → Lays w u x o v u' → IsWeight x g → grams o.table u' v ≡ Ok g
 laid_grams {w} {u} {v} {u'} {g} {x} {o} l i =
     let p = enters {s = []} (record { table = l.places.fine; stack = omega arith; limits_kept = refl }) in
     grams_gives o.table u' v (Weighs.weighs p l.places.inside (subst (λ (t : Tree). IsWeight t g) (sym l.places.tree) i))
 
 -- "turns grams to trees and back" ([9])
-pub weight_then_grams : (w : List ℕ) (u g : ℕ) {v u' : ℕ} → (weight w u g).answer ≡ made.Node v u' → grams (weight w u g).table u' v ≡ Ok g
+pub weight_then_grams : (w : List ℕ) (u g : ℕ) {v u' : ℕ} → (weight w u g).answer ≡ made v u' → grams (weight w u g).table u' v ≡ Ok g
 weight_then_grams w u g q = let y = weight_gives w u g q in laid_grams y.1 (every_weight g y.0)
 
 -- "so that a customer's total in trees is the total on the invoice" ([9])
-pub total_in_grams : (w : List ℕ) (u a b : ℕ) {v u' g h : ℕ} → grams w u a ≡ Ok g → grams w u b ≡ Ok h → (add_weights w u a b).answer ≡ made.Node v u'
+pub total_in_grams : (w : List ℕ) (u a b : ℕ) {v u' g h : ℕ} → grams w u a ≡ Ok g → grams w u b ≡ Ok h → (add_weights w u a b).answer ≡ made v u'
     → grams (add_weights w u a b).table u' v ≡ Ok (g + h)
 total_in_grams w u a b {v} {u'} {g} {h} p q r =
     let y = add_gives w u a b r (record { one = (grams_weight w u a p).2; two = (grams_weight w u b q).2 }) in

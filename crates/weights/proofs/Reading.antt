@@ -7,20 +7,20 @@ use mathlib.Core.Option.{Option, none, some}
 use native.Mathlib.Omega.{arith}
 use native.Mathlib.Nat.{max-le}
 use lib.ListN.{length, take}
+use Rattle.std.specs.Prelude.{Result, Ok}
 use borrow.Author.Tests.{le-leb}
 use Rattle.calculus.specs.Tree.{Tree}
 use Rattle.table.specs.Nodes.{Making, got, full, lay, tree_at}
 use Rattle.table.specs.Outcome.{Outcome, whole, frames, zeros, fits, at_entry, placed, stopped, laid}
 use Rattle.table.specs.declared.Refusal.{Refusal}
 use Rattle.table.specs.declared.Made.{Made}
-use Rattle.table.specs.declared.Made.TheVariants.{Node}
+use Rattle.table.specs.Refusal.{made}
 use Rattle.table.proofs.Laid.{room_laid, laid_got, laid_full}
 use Rattle.table.proofs.Entry.{entered, enters}
 use Rattle.ternary.specs.Text.{text, take_leaf, take_fork, take_digit, pending, many_pending, most_pending}
 use Rattle.ternary.specs.Read.{read_tree, read}
 use Rattle.ternary.specs.Write.{write}
 use Rattle.ternary.specs.Lacks.{Readable}
-use Rattle.ternary.specs.declared.Written.TheVariants.{Digits}
 use Rattle.ternary.proofs.OneText.{pending_text, text_read, whole_pending, length_text}
 use Rattle.ternary.proofs.Reading.{some_readable, read_found}
 use Rattle.ternary.proofs.Writes.{write_gives, write_text}
@@ -48,7 +48,7 @@ list_readable : {l : List ℕ} → NineDigits l → Readable (text (list_tree l)
 list_readable {l} n = record { short = omega (arith, length_text (list_tree l), weight_size n); tree_is = text_read (list_tree l) }
 
 -- an outcome without its stack
-abbrev pub no_stack : Outcome Made → Outcome Made
+abbrev pub no_stack : Outcome (Result Made Refusal) → Outcome (Result Made Refusal)
 no_stack o = whole o.answer o.table []
 
 module _ (w : List ℕ) (u : ℕ) (s : List ℕ) (k : length s ≤ 65536) where
@@ -85,9 +85,9 @@ module _ (w : List ℕ) (u : ℕ) (s : List ℕ) (k : length s ≤ 65536) where
   sum_as_read f {a} {b} {g} {h} i j r t = list_as_read f (nine_of (g + h)) ∙ add_checked w u a b i j (λ p. sum_digits_lem r.one r.two t)
 
 -- Write of a weight's node is the text of the weight, which Read lays as the same node, in a table that is left as it was.
-pub written_then_read : (w : List ℕ) (u : ℕ) (s : List ℕ) (v : ℕ) (o : List ℕ) (n : ℕ) {g : ℕ} → IsWeight (tree_at w v) g → (write w u s v o).answer ≡ Digits n
+pub written_then_read : (w : List ℕ) (u : ℕ) (s : List ℕ) (v : ℕ) (o : List ℕ) (n : ℕ) {g : ℕ} → IsWeight (tree_at w v) g → (write w u s v o).answer ≡ Ok n
     → (s₂ : List ℕ) → length s₂ ≤ 65536 → 3 ≤ frames s₂
-    → (take n (write w u s v o).out ≡ text (weight_tree g)) × (read w u s₂ (take n (write w u s v o).out) ≡ whole (Node v u) w (zeros s₂))
+    → (take n (write w u s v o).out ≡ text (weight_tree g)) × (read w u s₂ (take n (write w u s v o).out) ≡ whole (made v u) w (zeros s₂))
 unfolding weight_tree
 written_then_read w u s v o n {g} i q s₂ k f =
     let y = write_gives w u s v o n q in
