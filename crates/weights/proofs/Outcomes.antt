@@ -16,7 +16,7 @@ use Rattle.calculus.specs.Tree.{Tree}
 use Rattle.table.specs.Nodes.{Making, got, full, Sound, tree_at, lay}
 use Rattle.table.specs.Outcome.{Outcome, whole, at_entry, unless, laid}
 use Rattle.table.specs.Claims.{Lays}
-use Rattle.table.specs.Refusal.{made, no_node}
+use Rattle.table.specs.Refusal.{made, not_made}
 use Rattle.table.specs.Same.{Comparable}
 use Rattle.table.specs.declared.Refusal.{Refusal}
 use Rattle.table.specs.declared.Refusal.TheVariants.{Node, Weight}
@@ -77,7 +77,7 @@ laid_weight : (w : List ℕ) (u : ℕ) {x : Tree} {g : ℕ} → IsWeight x g →
 unfolding laid_digits weight_tree
 laid_weight w u {x} {g} i = ap (laid w u []) (sym ((weight_exactly x g).0 i).1)
 
-laid_none : (w : List ℕ) (u : ℕ) → laid_digits w u none ≡ whole (no_node Weight) w []
+laid_none : (w : List ℕ) (u : ℕ) → laid_digits w u none ≡ whole (not_made Weight) w []
 unfolding laid_digits
 laid_none w u = refl
 
@@ -86,7 +86,7 @@ sound_table w u p = (entered true w u [] p).table
 
 -- digits laid out after 1 and 2
 module _ (w : List ℕ) (u : ℕ) (o : Option (List ℕ)) where
-  pub checked_refused : {e : Refusal} → at_entry true w u [] ≡ some e → checked_digits w u o ≡ whole (no_node e) w []
+  pub checked_refused : {e : Refusal} → at_entry true w u [] ≡ some e → checked_digits w u o ≡ whole (not_made e) w []
   unfolding checked_digits
   checked_refused p = rw p
 
@@ -100,10 +100,10 @@ module _ (w : List ℕ) (u g : ℕ) where
   unfolding weight
   weight_checked e = ap (checked_digits w u) (sym e)
 
-  weight_refused : {e : Refusal} → at_entry true w u [] ≡ some e → weight w u g ≡ whole (no_node e) w []
+  weight_refused : {e : Refusal} → at_entry true w u [] ≡ some e → weight w u g ≡ whole (not_made e) w []
   weight_refused p = sym (weight_checked refl) ∙ checked_refused w u (gram_digits g) p
 
-  weight_above : at_entry true w u [] ≡ none → 999999999 < g → weight w u g ≡ whole (no_node Weight) w []
+  weight_above : at_entry true w u [] ≡ none → 999999999 < g → weight w u g ≡ whole (not_made Weight) w []
   weight_above p h = sym (weight_checked (no_gram_digits g h)) ∙ checked_entered w u none p ∙ laid_none w u
 
   weight_laid : at_entry true w u [] ≡ none → {x : Tree} → IsWeight x g → weight w u g ≡ laid w u [] x
@@ -140,11 +140,11 @@ module _ (w : List ℕ) (u g : ℕ) where
 
 -- "adds two weights" ([9]): 1, 2, 3, 14 and 8, each exactly on its condition, and else the node of the sum
 module _ (w : List ℕ) (u a b : ℕ) where
-  pub add_refused : {e : Refusal} → at_entry true w u [] ≡ some e → add_weights w u a b ≡ whole (no_node e) w []
+  pub add_refused : {e : Refusal} → at_entry true w u [] ≡ some e → add_weights w u a b ≡ whole (not_made e) w []
   unfolding add_weights
   add_refused p = rw p
 
-  pub add_no_node : at_entry true w u [] ≡ none → (a < u → b < u → ⊥) → add_weights w u a b ≡ whole (no_node Node) w []
+  pub add_no_node : at_entry true w u [] ≡ none → (a < u → b < u → ⊥) → add_weights w u a b ≡ whole (not_made Node) w []
   unfolding add_weights
   add_no_node p n = rw (p, out_of_use n)
 
@@ -152,7 +152,7 @@ module _ (w : List ℕ) (u a b : ℕ) where
   unfolding add_weights
   add_in_use c = rw (c.entered, lt-ltb a u c.first_in, lt-ltb b u c.second_in)
 
-  pub add_no_digits : Comparable w u a b → sum_digits (digits_of_weight (tree_at w a)) (digits_of_weight (tree_at w b)) ≡ none → add_weights w u a b ≡ whole (no_node Weight) w []
+  pub add_no_digits : Comparable w u a b → sum_digits (digits_of_weight (tree_at w a)) (digits_of_weight (tree_at w b)) ≡ none → add_weights w u a b ≡ whole (not_made Weight) w []
   add_no_digits c e = add_in_use c ∙ ap (laid_digits w u) e ∙ laid_none w u
 
   -- digits that are those of the sum, once the table has passed 1 and 2

@@ -7,7 +7,7 @@ use Rattle.calculus.specs.Tree.{Tree}
 use Rattle.table.specs.Nodes.{Table, Placed, got, capacity, tree_at, lay, cleared}
 use Rattle.table.specs.Outcome.{Outcome, whole, at_entry, placed}
 use Rattle.table.specs.Claims.{Lacking, EntryLacks}
-use Rattle.table.specs.Refusal.{no_node}
+use Rattle.table.specs.Refusal.{not_made}
 use Rattle.table.specs.Same.{Comparable}
 use Rattle.table.specs.declared.Refusal.{Refusal}
 use Rattle.table.specs.declared.Refusal.TheVariants.{Node, Nodes, Weight}
@@ -39,21 +39,21 @@ pub record AreWeights (w : List ℕ) (a b g h : ℕ) : Type 0 where
 -- "then 8" ([9]), which comes "only when a node not yet in the table is wanted and the table is full" ([8]): the outcome o where the tree x is laid out. On
 -- 8 the nodes made, which are all from the first new one to the capacity, are cleared.
 pub data LaidOut (w : List ℕ) (u : ℕ) (x : Tree) (o : Outcome (Result Made Refusal)) : Type 0 where
-  no_nodes : {z : Table} → Lacking (record { words = w; used = u }) x z → o ≡ whole (no_node Nodes) (cleared w (u * 2) (capacity w * 2)) [] → LaidOut w u x o
+  no_nodes : {z : Table} → Lacking (record { words = w; used = u }) x z → o ≡ whole (not_made Nodes) (cleared w (u * 2) (capacity w * 2)) [] → LaidOut w u x o
   enough : {m : Placed} → lay (record { words = w; used = u }) x ≡ got m → o ≡ placed m [] → LaidOut w u x o
 
 -- Each outcome o of `weight` with its condition: 1, 2, 14 and 8, or the node of the weight
 pub data WeightMade (w : List ℕ) (u g : ℕ) (o : Outcome (Result Made Refusal)) : Type 0 where
-  of_entry : {e : Refusal} → EntryLacks true w u [] e → o ≡ whole (no_node e) w [] → WeightMade w u g o
-  above_top : at_entry true w u [] ≡ none → 999999999 < g → o ≡ whole (no_node Weight) w [] → WeightMade w u g o
+  of_entry : {e : Refusal} → EntryLacks true w u [] e → o ≡ whole (not_made e) w [] → WeightMade w u g o
+  above_top : at_entry true w u [] ≡ none → 999999999 < g → o ≡ whole (not_made Weight) w [] → WeightMade w u g o
   laid_out : at_entry true w u [] ≡ none → {x : Tree} → IsWeight x g → LaidOut w u x o → WeightMade w u g o
 
 -- Each outcome o of `add_weights` with its condition: 1, 2, "14, not a weight or a sum above the top, after 3; then 8" ([9]), or the node of the sum
 pub data WeightsAdded (w : List ℕ) (u a b : ℕ) (o : Outcome (Result Made Refusal)) : Type 0 where
-  of_entry : {e : Refusal} → EntryLacks true w u [] e → o ≡ whole (no_node e) w [] → WeightsAdded w u a b o
-  not_in_use : at_entry true w u [] ≡ none → (a < u → b < u → ⊥) → o ≡ whole (no_node Node) w [] → WeightsAdded w u a b o
-  not_weights : Comparable w u a b → ((g h : ℕ) → AreWeights w a b g h → ⊥) → o ≡ whole (no_node Weight) w [] → WeightsAdded w u a b o
-  above_top : Comparable w u a b → {g h : ℕ} → AreWeights w a b g h → 999999999 < g + h → o ≡ whole (no_node Weight) w [] → WeightsAdded w u a b o
+  of_entry : {e : Refusal} → EntryLacks true w u [] e → o ≡ whole (not_made e) w [] → WeightsAdded w u a b o
+  not_in_use : at_entry true w u [] ≡ none → (a < u → b < u → ⊥) → o ≡ whole (not_made Node) w [] → WeightsAdded w u a b o
+  not_weights : Comparable w u a b → ((g h : ℕ) → AreWeights w a b g h → ⊥) → o ≡ whole (not_made Weight) w [] → WeightsAdded w u a b o
+  above_top : Comparable w u a b → {g h : ℕ} → AreWeights w a b g h → 999999999 < g + h → o ≡ whole (not_made Weight) w [] → WeightsAdded w u a b o
   laid_out : Comparable w u a b → {g h : ℕ} → AreWeights w a b g h → {x : Tree} → IsWeight x (g + h) → LaidOut w u x o → WeightsAdded w u a b o
 
 -- Each answer of `grams` with its condition

@@ -5,7 +5,7 @@ use Rattle.std.specs.declared.cmp.Ordering.TheVariants.{Less, Equal, Greater}
 use Rattle.std.proofs.Math.Option.{Option, none, some}
 use Rattle.table.specs.Nodes.{tree_at}
 use Rattle.table.specs.Outcome.{Outcome, whole, at_entry, unless, laid}
-use Rattle.table.specs.Refusal.{number, no_node}
+use Rattle.table.specs.Refusal.{number, not_made}
 use Rattle.table.specs.declared.Refusal.{Refusal}
 use Rattle.table.specs.declared.Refusal.TheVariants.{Node, Weight}
 use Rattle.table.specs.declared.Made.{Made}
@@ -14,12 +14,12 @@ use Rattle.weights.specs.Digits.{list_tree, grams_of, gram_digits, digits_of_wei
 -- "Checks: 14, not a weight or a sum above the top [..]; then 8." ([9]): the list of digits laid out, where there are digits. "New nodes are wanted in the
 -- order in which Read would take them from the list's text": the theorem `weight_as_read`.
 unfoldable pub laid_digits : List ℕ → ℕ → Option (List ℕ) → Outcome (Result Made Refusal)
-laid_digits w u none = whole (no_node Weight) w []
+laid_digits w u none = whole (not_made Weight) w []
 laid_digits w u (some l) = laid w u [] (list_tree l)
 
 -- 1 and 2 before that, in the table w with u nodes in use
 unfoldable pub checked_digits : List ℕ → ℕ → Option (List ℕ) → Outcome (Result Made Refusal)
-checked_digits w u o = unless (at_entry true w u []) (λ e. whole (no_node e) w []) (laid_digits w u o)
+checked_digits w u o = unless (at_entry true w u []) (λ e. whole (not_made e) w []) (laid_digits w u o)
 
 -- "The library turns grams to trees and back" ([9]): the weight of g grams. Grams are no node number, so that 14 comes after 1 and 2.
 unfoldable pub weight : List ℕ → ℕ → ℕ → Outcome (Result Made Refusal)
@@ -28,8 +28,8 @@ weight w u g = checked_digits w u (gram_digits g)
 -- "adds two weights [..] on the trees" ([9]): the sum of those at the nodes a and b; "14 [..] after 3"
 unfoldable pub add_weights : List ℕ → ℕ → ℕ → ℕ → Outcome (Result Made Refusal)
 add_weights w u a b =
-    unless (at_entry true w u []) (λ e. whole (no_node e) w [])
-    (cond (ltb a u && ltb b u) (laid_digits w u (sum_digits (digits_of_weight (tree_at w a)) (digits_of_weight (tree_at w b)))) (whole (no_node Node) w []))
+    unless (at_entry true w u []) (λ e. whole (not_made e) w [])
+    (cond (ltb a u && ltb b u) (laid_digits w u (sum_digits (digits_of_weight (tree_at w a)) (digits_of_weight (tree_at w b)))) (whole (not_made Node) w []))
 
 -- the grams of a weight's digits, or 14
 unfoldable pub weigh : Option (List ℕ) → Result ℕ Refusal
