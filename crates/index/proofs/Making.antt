@@ -5,21 +5,21 @@ use mathlib.Core.Bool.{false}
 use mathlib.Core.List.{List}
 use native.Mathlib.Omega.{arith}
 use lib.ListN.{length, set, length-set}
+use Rattle.std.specs.Prelude as code
+use Rattle.std.specs.Prelude.{Some, None, Ok}
 use Rattle.table.specs.Nodes.{Placed, got, full, capacity, first, second, broken, Sound, new_node, make, cleared}
 use Rattle.table.specs.Outcome.{whole, placed, stopped, settled}
 use Rattle.table.specs.Claims.{Unbroken}
 use Rattle.table.specs.declared.Refusal.TheVariants.{Nodes}
 use Rattle.table.proofs.Words.{sound_more, wrote, wrote_other, wrote_first, wrote_second, length_wrote, cleared_all}
 use Rattle.table.proofs.Making.{make_found, make_new, make_full, make_places}
-use Rattle.table.specs.Refusal.{made, not_made}
+use Rattle.table.specs.Refusal.{not_made}
 use Rattle.nodes.specs.Code.{placed_by}
-use Rattle.nodes.specs.declared.NewNode.{NewNode}
+use Rattle.table.specs.declared.Made.{Made}
 use Rattle.index.specs.Index.{Ready}
 use Rattle.index.specs.Code.{Sought, got_by, ReadyGot}
 use Rattle.index.specs.declared.Found.{Found}
 use Rattle.index.specs.declared.Found.TheVariants as found
-use Rattle.index.specs.declared.Got.{Got}
-use Rattle.index.specs.declared.Got.TheVariants.{Node, Full}
 use Rattle.index.proofs.Indexing.{indexed_more, node_sought, none_sought, place_sought}
 
 module _ (w : List ℕ) (u s : ℕ) (ix : List ℕ) (a b p : ℕ) (r : Found) (x : Ready w u s ix) (t : Sought w u s ix a b r) (e : r ≡ found.Place p) where
@@ -56,14 +56,14 @@ module _ (w : List ℕ) (u s : ℕ) (ix : List ℕ) (a b p : ℕ) (r : Found) (x
       })
       refl (λ i l. refl) (λ i l. refl) (sym f) (sym g)
 
-  pub got_full : capacity w ≤ u → (got_by Full w ≡ make (record { words = w; used = u }) a b) × ReadyGot Full w s ix
+  pub got_full : capacity w ≤ u → (got_by None w ≡ make (record { words = w; used = u }) a b) × ReadyGot None w s ix
   unfolding got_by ReadyGot
   got_full h =
       let q : capacity w ≡ u = omega (arith, x.fine.within) in
       (ap (λ (n : ℕ). full (record { words = w; used = n })) q ∙ sym (make_full (record { words = w; used = u }) a b (none_sought w u s ix a b p r t e) h), tt)
 
-  pub got_new : Unbroken u a b → (m : NewNode) (z : List ℕ) → u < capacity w → placed_by m z ≡ new_node (record { words = w; used = u }) a b
-      → (got_by (Node m.node m.used) z ≡ make (record { words = w; used = u }) a b) × ReadyGot (Node m.node m.used) z s (set ix p u)
+  pub got_new : Unbroken u a b → (m : Made) (z : List ℕ) → u < capacity w → placed_by m z ≡ new_node (record { words = w; used = u }) a b
+      → (got_by (Some m) z ≡ make (record { words = w; used = u }) a b) × ReadyGot (Some m) z s (set ix p u)
   unfolding got_by ReadyGot new_node
   got_new o m z h q =
       let k = make_new (record { words = w; used = u }) a b (none_sought w u s ix a b p r t e) h in
@@ -78,16 +78,16 @@ module _ (w : List ℕ) (u s : ℕ) (ix : List ℕ) (a b p : ℕ) (r : Found) (x
       )
 
 pub got_found : (w : List ℕ) (u s : ℕ) (ix : List ℕ) (a b n : ℕ) (r : Found) → Ready w u s ix → Sought w u s ix a b r → r ≡ found.Node n
-    → (got_by (Node n u) w ≡ make (record { words = w; used = u }) a b) × ReadyGot (Node n u) w s ix
+    → (got_by (Some (record { node = n; used = u })) w ≡ make (record { words = w; used = u }) a b) × ReadyGot (Some (record { node = n; used = u })) w s ix
 unfolding got_by ReadyGot
 got_found w u s ix a b n r x t e = (sym (make_found (record { words = w; used = u }) a b (node_sought w u s ix a b n r t e)), x)
 
 -- what is settled
-module _ (w : List ℕ) (u : ℕ) (f z : List ℕ) (c : z ≡ cleared f 0 (length f)) {g : Got} where
-  pub settled_node : (n v : ℕ) → g ≡ Node n v → whole (made n v) w z ≡ settled u f (got_by g w)
+module _ (w : List ℕ) (u : ℕ) (f z : List ℕ) (c : z ≡ cleared f 0 (length f)) {g : code.Option Made} where
+  pub settled_node : (m : Made) → g ≡ Some m → whole (Ok m) w z ≡ settled u f (got_by g w)
   unfolding settled placed got_by
-  settled_node n v e = rw (e, c, cleared_all f)
+  settled_node m e = rw (e, c, cleared_all f)
 
-  pub settled_full : {y : List ℕ} → y ≡ cleared w (u * 2) (length w / 2 * 2) → g ≡ Full → whole (not_made Nodes) y z ≡ settled u f (got_by g w)
+  pub settled_full : {y : List ℕ} → y ≡ cleared w (u * 2) (length w / 2 * 2) → g ≡ None → whole (not_made Nodes) y z ≡ settled u f (got_by g w)
   unfolding settled stopped got_by
   settled_full d e = rw (e, c, d, cleared_all f)

@@ -4,17 +4,16 @@ use mathlib.Core.Path.{◌≡◌, refl, sym, ap, ◌∙◌, subst}
 use mathlib.Core.List.{List}
 use native.Mathlib.Omega.{arith}
 use lib.ListN.{length, get_or, replicate, length-replicate}
-use Rattle.std.specs.Prelude.{Result}
+use Rattle.std.specs.Prelude as code
+use Rattle.std.specs.Prelude.{Some, None, Result, Ok}
 use Rattle.table.specs.Nodes.{Making, got, full, capacity, sound}
 use Rattle.table.specs.Outcome.{Outcome, whole, placed, stopped, settled}
 use Rattle.table.specs.declared.Refusal.TheVariants.{Nodes}
-use Rattle.table.specs.Refusal.{made, not_made}
+use Rattle.table.specs.Refusal.{not_made}
 use Rattle.table.specs.declared.Refusal.{Refusal}
 use Rattle.table.specs.declared.Made.{Made}
 use Rattle.index.specs.Index.{Ready, Empty}
 use Rattle.index.specs.Code.{got_by, ReadyGot, ReadyMade}
-use Rattle.index.specs.declared.Got.{Got}
-use Rattle.index.specs.declared.Got.TheVariants.{Node, Full}
 
 zeros_at : (n p : ℕ) → ◌≡◌ {A = ℕ} (get_or (replicate n 0) p 0) 0
 zeros_at zero p = refl
@@ -38,31 +37,31 @@ ready_none h x =
     }
 
 -- what came of wanting a node, by the answer's case
-module _ {r : Got} {w : List ℕ} where
+module _ {r : code.Option Made} {w : List ℕ} where
   module _ {x : Making} (e : got_by r w ≡ x) where
-    pub node_got : {n u : ℕ} → r ≡ Node n u → x ≡ got (record { table = record { words = w; used = u }; node = n })
+    pub node_got : {m : Made} → r ≡ Some m → x ≡ got (record { table = record { words = w; used = m.used }; node = m.node })
     unfolding got_by
-    node_got q = sym e ∙ ap (λ (y : Got). got_by y w) q
+    node_got q = sym e ∙ ap (λ (y : code.Option Made). got_by y w) q
 
-    pub full_got : r ≡ Full → x ≡ full (record { words = w; used = capacity w })
+    pub full_got : r ≡ None → x ≡ full (record { words = w; used = capacity w })
     unfolding got_by
-    full_got q = sym e ∙ ap (λ (y : Got). got_by y w) q
+    full_got q = sym e ∙ ap (λ (y : code.Option Made). got_by y w) q
 
-  pub node_ready : {s : ℕ} {ix : List ℕ} → ReadyGot r w s ix → {n u : ℕ} → r ≡ Node n u → Ready w u s ix
+  pub node_ready : {s : ℕ} {ix : List ℕ} → ReadyGot r w s ix → {m : Made} → r ≡ Some m → Ready w m.used s ix
   unfolding ReadyGot
-  node_ready {s} {ix} x q = subst (λ (y : Got). ReadyGot y w s ix) q x
+  node_ready {s} {ix} x q = subst (λ (y : code.Option Made). ReadyGot y w s ix) q x
 
-pub made_ready : {r : (Result Made Refusal)} {w : List ℕ} {s : ℕ} {ix : List ℕ} → ReadyMade r w s ix → {n u : ℕ} → r ≡ made n u → Ready w u s ix
+pub made_ready : {r : Result Made Refusal} {w : List ℕ} {s : ℕ} {ix : List ℕ} → ReadyMade r w s ix → {m : Made} → r ≡ Ok m → Ready w m.used s ix
 unfolding ReadyMade
-made_ready {r} {w} {s} {ix} x q = subst (λ (y : (Result Made Refusal)). ReadyMade y w s ix) q x
+made_ready {r} {w} {s} {ix} x q = subst (λ (y : Result Made Refusal). ReadyMade y w s ix) q x
 
 -- an answer that is settled leaves the table ready
-pub settled_ready : (g : Got) (w f : List ℕ) (u s : ℕ) (ix : List ℕ) {r : (Result Made Refusal)} {z t : List ℕ} → whole r z t ≡ settled u f (got_by g w) → ReadyGot g w s ix → ReadyMade r z s ix
+pub settled_ready : (g : code.Option Made) (w f : List ℕ) (u s : ℕ) (ix : List ℕ) {r : Result Made Refusal} {z t : List ℕ} → whole r z t ≡ settled u f (got_by g w) → ReadyGot g w s ix → ReadyMade r z s ix
 unfolding settled placed stopped got_by ReadyGot ReadyMade
-settled_ready (Node n v) w f u s ix {r} {z} e x =
-    let p : r ≡ made n v = ap (λ (o : Outcome (Result Made Refusal)). o.answer) e in
+settled_ready (Some m) w f u s ix {r} {z} e x =
+    let p : r ≡ Ok m = ap (λ (o : Outcome (Result Made Refusal)). o.answer) e in
     let q : z ≡ w = ap (λ (o : Outcome (Result Made Refusal)). o.table) e in
     rw (p, q) x
-settled_ready Full w f u s ix {r} {z} e x =
+settled_ready None w f u s ix {r} {z} e x =
     let p : r ≡ not_made Nodes = ap (λ (o : Outcome (Result Made Refusal)). o.answer) e in
     rw p tt

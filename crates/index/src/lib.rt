@@ -12,18 +12,11 @@ ghost use Rattle.index.specs.Code.{Sought, got_by, ReadyGot};
 
 use table::{Made, Refusal};
 
-// What a search meets first: the node with both words, or an empty entry.
-#[derive(Clone, Copy)]
+// What a search meets first: the node with both words, or an empty entry. An enum, since neither is the failure that a `Result` would make of it.
+#[derive(Clone, Copy, Debug, PartialEq, Eq)]
 pub enum Found {
     Node(usize),
     Place(usize),
-}
-
-// The node found or made, with the count of used nodes; or no place for it.
-#[derive(Clone, Copy)]
-pub enum Got {
-    Node { node: usize, used: usize },
-    Full,
 }
 
 // The entry at which the search for the words a and b begins. No product or sum of two words overflows, since the factors' sum is below 2^32.
@@ -39,11 +32,7 @@ fn has_words(table: &[u32], i: usize, a: usize, b: usize) -> bool
     requires { i * 2 + 1 < length table.now }
     ensures { result ≡ has_words table.now i a b }
 {
-    if nodes::word(table, i * 2) == a {
-        nodes::word(table, i * 2 + 1) == b
-    } else {
-        false
-    }
+    nodes::word(table, i * 2) == a && nodes::word(table, i * 2 + 1) == b
 }
 
 // The node with the words a and b, or the empty entry that is its place. The leaf has no entry: it is node 0, once a node is in use. For any other node
@@ -83,22 +72,18 @@ pub fn make(
     slots: usize,
     a: usize,
     b: usize,
-) -> Got
+) -> Option<Made>
     requires { Ready table.old used slots index.old × Unbroken used a b }
     ensures { (got_by result table.new ≡ make (record { words = table.old; used = used }) a b) × ReadyGot result table.new slots index.new }
 {
     match search(table, used, index, slots, a, b) {
-        Found::Node(n) => Got::Node { node: n, used },
+        Found::Node(n) => Some(Made { node: n, used }),
         Found::Place(p) => {
             if used < table.len() / 2 {
                 index[p] = used as u16;
-                let made = nodes::new_node(table, used, a, b);
-                Got::Node {
-                    node: made.node,
-                    used: made.used,
-                }
+                Some(nodes::new_node(table, used, a, b))
             } else {
-                Got::Full
+                None
             }
         }
     }
@@ -106,18 +91,23 @@ pub fn make(
 
 // What an operation that makes nodes answers, by the last node that it wanted: where that has no place, the words of the nodes made since `used` were in
 // use are cleared. The stack is cleared.
-pub fn settle(table: &mut [u32], used: usize, stack: &mut [u32], got: Got) -> Made
+pub fn settle(
+    table: &mut [u32],
+    used: usize,
+    stack: &mut [u32],
+    got: Option<Made>,
+) -> Result<Made, Refusal>
     requires { used ≤ capacity table.old }
     ensures { whole result table.new stack.new ≡ settled used stack.old (got_by got table.old) }
 {
     let frames_end = stack.len();
     nodes::clear(stack, 0, frames_end);
     match got {
-        Got::Node { node, used: count } => Made::Node { node, used: count },
-        Got::Full => {
+        Some(made) => Ok(made),
+        None => {
             let end = table.len() / 2 * 2;
             nodes::clear(table, used * 2, end);
-            Made::Refused(Refusal::Nodes)
+            Err(Refusal::Nodes)
         }
     }
 }

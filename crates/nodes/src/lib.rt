@@ -6,12 +6,7 @@ ghost use Rattle.std.specs.Prelude.{◌≡◌, ◌+◌, ◌*◌, ◌≤◌, ◌<
 ghost use Rattle.table.specs.Nodes.{new_node, cleared};
 ghost use Rattle.nodes.specs.Code.{placed_by};
 
-// A node that was made, and the count of used nodes with it.
-#[derive(Clone, Copy)]
-pub struct NewNode {
-    pub node: usize,
-    pub used: usize,
-}
+use table::Made;
 
 // A lent word as a number.
 pub fn word(words: &[u32], i: usize) -> usize
@@ -22,13 +17,13 @@ pub fn word(words: &[u32], i: usize) -> usize
 }
 
 // The next node, with the branch words a and b.
-pub fn new_node(table: &mut [u32], used: usize, a: usize, b: usize) -> NewNode
+pub fn new_node(table: &mut [u32], used: usize, a: usize, b: usize) -> Made
     requires { (used * 2 + 1 < length table.old) × (a < 4294967296) × (b < 4294967296) }
     ensures { placed_by result table.new ≡ new_node (record { words = table.old; used = used }) a b }
 {
     table[used * 2] = a as u32;
     table[used * 2 + 1] = b as u32;
-    NewNode {
+    Made {
         node: used,
         used: used + 1,
     }
@@ -39,9 +34,5 @@ pub fn clear(words: &mut [u32], a: usize, b: usize)
     requires { (a ≤ b) × (b ≤ length words.old) }
     ensures { words.new ≡ cleared words.old a b }
 {
-    let mut i = a;
-    while i < b {
-        words[i] = 0;
-        i += 1;
-    }
+    words[a..b].fill(0);
 }

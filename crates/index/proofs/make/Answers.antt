@@ -24,7 +24,7 @@ returns-in-Node c =
 pub returns-then-used-table : goal.returns-then-used-table
 returns-then-used-table c =
     let a = c.args in
-    got_new a.table.now a.used a.slots a.index.now a.a a.b _ _ c.requires.0 c.search.ensures c.in-Place.is c.requires.1 c.new_node-made.result _ c.if-used-table.true c.new_node-made.ensures
+    got_new a.table.now a.used a.slots a.index.now a.a a.b _ _ c.requires.0 c.search.ensures c.in-Place.is c.requires.1 c.new_node.result _ c.if-used-table.true c.new_node.ensures
 
 pub returns-else-used-table : goal.returns-else-used-table
 returns-else-used-table c =
