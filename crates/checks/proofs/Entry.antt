@@ -7,19 +7,19 @@ use mathlib.Core.Option.{some, none}
 use lib.ListN.{length}
 use lib.Dec.{leb}
 use borrow.Author.Tests.{lt-leb, le-leb, leb-true, not-true, not-false}
+use Rattle.std.specs.Prelude.{⊤, IsOk, Err}
 use Rattle.table.specs.Nodes.{capacity, sound}
 use Rattle.table.specs.Outcome.{fits, at_entry}
 use Rattle.table.specs.declared.Refusal.{Refusal}
 use Rattle.table.specs.declared.Refusal.TheVariants.{Limits, Broken}
 use Rattle.table.proofs.Words.{zero_one, and_left, and_right}
 use Rattle.index.specs.Index.{Ready}
-use Rattle.checks.specs.declared.Checked.TheVariants.{Passed, Refused}
 use Rattle.checks.specs.Code.{refusal_of}
 
 module _ (within : Bool) (w : List ℕ) (u : ℕ) (s : List ℕ) where
   -- a refusal leaves nothing to say of the index
   pub refuses : {n : ℕ} {ix : List ℕ} {e : Refusal} → some e ≡ at_entry within w u s
-      → (refusal_of (Refused e) ≡ at_entry within w u s) × (Refused e ≡ Passed → Ready w u n ix)
+      → (refusal_of (Err e) ≡ at_entry within w u s) × (IsOk {T = ⊤} {E = Refusal} (Err e) → Ready w u n ix)
   refuses q = (q, λ c. zero_one (cc))
 
   -- the tests of 1

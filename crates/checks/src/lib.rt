@@ -3,19 +3,12 @@
 // The check for 2 fills an index of the table's nodes (crates `index` and `fill`).
 #![tactic(auto)]
 
-ghost use Rattle.std.specs.Prelude.{◌≡◌, ◌&&◌, ◌≤◌, length};
+ghost use Rattle.std.specs.Prelude.{◌≡◌, ◌&&◌, ◌≤◌, length, IsOk};
 ghost use Rattle.table.specs.Outcome.{fits, at_entry};
 ghost use Rattle.index.specs.Index.{Empty, Ready};
 ghost use Rattle.checks.specs.Code.{refusal_of, checked_with, frames_for};
 
 use table::Refusal;
-
-// What a check says: nothing is refused, or the refusal.
-#[derive(Clone, Copy)]
-pub enum Checked {
-    Passed,
-    Refused(Refusal),
-}
 
 // Whether 1 is not met. `within` says whether the operation's own limits are kept.
 fn fits(within: bool, table: &[u32], used: usize, stack: &[u32]) -> bool
@@ -41,28 +34,28 @@ pub fn check_in(
     stack: &[u32],
     index: &mut [u16],
     slots: usize,
-) -> Checked
+) -> Result<(), Refusal>
     requires { Empty table.now slots index.old }
-    ensures { (refusal_of result ≡ at_entry within table.now used stack.now) × (result ≡ Checked.Passed → Ready table.now used slots index.new) }
+    ensures { (refusal_of result ≡ at_entry within table.now used stack.now) × (IsOk result → Ready table.now used slots index.new) }
 {
     if !fits(within, table, used, stack) {
-        return Checked::Refused(Refusal::Limits);
+        return Err(Refusal::Limits);
     }
     if fill::fill(table, used, index, slots) {
-        Checked::Passed
+        Ok(())
     } else {
-        Checked::Refused(Refusal::Broken)
+        Err(Refusal::Broken)
     }
 }
 
 // Frames for a tree that takes so many: 9. A refusal clears the stack.
-pub fn check_frames(stack: &mut [u32], held: usize) -> Checked
+pub fn check_frames(stack: &mut [u32], held: usize) -> Result<(), Refusal>
     ensures { checked_with result stack.new ≡ frames_for stack.old held }
 {
     let len = stack.len();
     if len / 3 < held {
         nodes::clear(stack, 0, len);
-        return Checked::Refused(Refusal::Frames);
+        return Err(Refusal::Frames);
     }
-    Checked::Passed
+    Ok(())
 }

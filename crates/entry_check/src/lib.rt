@@ -5,71 +5,49 @@
 // touch.
 #![tactic(auto)]
 
-ghost use Rattle.std.specs.Prelude.{◌≡◌, ◌≤◌, length};
+ghost use Rattle.std.specs.Prelude.{◌≡◌, ◌+◌, ◌*◌, ◌/◌, ◌≤◌};
+ghost use Rattle.table.specs.Nodes.{capacity};
 ghost use Rattle.table.specs.Outcome.{at_entry};
 ghost use Rattle.checks.specs.Code.{refusal_of};
 
-use checks::Checked;
 use table::Refusal;
 
-// A table of at most 64 nodes.
-fn check_64(within: bool, table: &[u32], used: usize, stack: &[u32]) -> Checked
-    requires { length table.now ≤ 128 }
+// The checks with an index of N entries, of which two thirds are slots.
+fn check_in<const N: usize>(
+    within: bool,
+    table: &[u32],
+    used: usize,
+    stack: &[u32],
+) -> Result<(), Refusal>
+    requires { (2 ≤ N / 3) × (N / 3 * 2 + capacity table.now ≤ N) }
     ensures { refusal_of result ≡ at_entry within table.now used stack.now }
 {
-    let mut index = [0u16; 192];
-    checks::check_in(within, table, used, stack, &mut index, 128)
-}
-
-// A table of at most 1,024 nodes.
-fn check_1024(within: bool, table: &[u32], used: usize, stack: &[u32]) -> Checked
-    requires { length table.now ≤ 2048 }
-    ensures { refusal_of result ≡ at_entry within table.now used stack.now }
-{
-    let mut index = [0u16; 3072];
-    checks::check_in(within, table, used, stack, &mut index, 2048)
-}
-
-// A table of at most 8,192 nodes.
-fn check_8192(within: bool, table: &[u32], used: usize, stack: &[u32]) -> Checked
-    requires { length table.now ≤ 16384 }
-    ensures { refusal_of result ≡ at_entry within table.now used stack.now }
-{
-    let mut index = [0u16; 24576];
-    checks::check_in(within, table, used, stack, &mut index, 16384)
-}
-
-// A table of at most 65,536 nodes.
-fn check_65536(within: bool, table: &[u32], used: usize, stack: &[u32]) -> Checked
-    requires { length table.now ≤ 131072 }
-    ensures { refusal_of result ≡ at_entry within table.now used stack.now }
-{
-    let mut index = [0u16; 196608];
-    checks::check_in(within, table, used, stack, &mut index, 131072)
+    let mut index = [0u16; N];
+    checks::check_in(within, table, used, stack, &mut index, N / 3 * 2)
 }
 
 // The checks at entry of an operation that makes no nodes, with an index of their own.
-pub fn check(within: bool, table: &[u32], used: usize, stack: &[u32]) -> Checked
+pub fn check(within: bool, table: &[u32], used: usize, stack: &[u32]) -> Result<(), Refusal>
     ensures { refusal_of result ≡ at_entry within table.now used stack.now }
 {
     let n = table.len();
     if 131072 < n {
-        return Checked::Refused(Refusal::Limits);
+        return Err(Refusal::Limits);
     }
     if n <= 128 {
-        return check_64(within, table, used, stack);
+        return check_in::<192>(within, table, used, stack);
     }
     if !within {
-        return Checked::Refused(Refusal::Limits);
+        return Err(Refusal::Limits);
     }
     if n <= 2048 {
-        return check_1024(within, table, used, stack);
+        return check_in::<3072>(within, table, used, stack);
     }
     if 65536 < stack.len() {
-        return Checked::Refused(Refusal::Limits);
+        return Err(Refusal::Limits);
     }
     if n <= 16384 {
-        return check_8192(within, table, used, stack);
+        return check_in::<24576>(within, table, used, stack);
     }
-    check_65536(within, table, used, stack)
+    check_in::<196608>(within, table, used, stack)
 }

@@ -27,8 +27,7 @@ pub fn fill(table: &[u32], used: usize, index: &mut [u16], slots: usize) -> bool
     requires { Empty table.now slots index.old × (length table.now ≤ 131072) × (used ≤ capacity table.now) }
     ensures { (result ≡ sound table.now used) × (result ≡ true → Ready table.now used slots index.new) }
 {
-    let mut i = 0;
-    while i < used {
+    for i in 0..used {
         let a = nodes::word(table, i * 2);
         let b = nodes::word(table, i * 2 + 1);
         if is_broken(i, a, b) {
@@ -38,7 +37,6 @@ pub fn fill(table: &[u32], used: usize, index: &mut [u16], slots: usize) -> bool
             return false;
         };
         index[p] = i as u16;
-        i += 1;
     }
     true
 }

@@ -11,28 +11,10 @@ use Rattle.fill.proofs.Filled.{filled_broken, filled_equal}
 use Rattle.fill.proofs.fill.Goals as goal
 
 pub loop-i-init : goal.loop-i-init
-loop-i-init c = (omega arith, ready_none c.requires.1 c.requires.0, refl)
-
-pub overflow_mul-i : goal.overflow_mul-i
-overflow_mul-i c = omega arith
-
-pub word-a-requires : goal.word-a-requires
-word-a-requires c = omega arith
-
-pub overflow_mul-i-in-loop-i : goal.overflow_mul-i-in-loop-i
-overflow_mul-i-in-loop-i c = omega arith
-
-pub overflow_add-i : goal.overflow_add-i
-overflow_add-i c = omega arith
-
-pub word-b-requires : goal.word-b-requires
-word-b-requires c = omega arith
-
-pub is_broken-requires : goal.is_broken-requires
-is_broken-requires c = (omega (arith, c.word-a.ensures.1), omega (arith, c.word-b.ensures.1))
+loop-i-init c = (ready_none c.requires.1 c.requires.0, refl)
 
 pub shape_of-index-then-is_broken : goal.shape_of-index-then-is_broken
-shape_of-index-then-is_broken c = c.loop-i.invariant.2
+shape_of-index-then-is_broken c = c.loop-i.invariant.1
 
 pub returns-then-is_broken : goal.returns-then-is_broken
 returns-then-is_broken c =
@@ -43,51 +25,41 @@ pub search-requires : goal.search-requires
 search-requires c =
     let l = c.loop-i in
     let o = unbroken l.i _ _ (sym c.is_broken.ensures ∙ c.if-is_broken.false) in
-    (l.invariant.1, omega (arith, c.word-a.ensures.1), omega (arith, c.word-b.ensures.1), λ e. omega (arith, e, o.no_gap e))
+    (l.invariant.0, omega (arith, c.word-a.ensures.1), omega (arith, c.word-b.ensures.1), λ e. omega (arith, e, o.no_gap e))
 
 pub shape_of-index-in_default : goal.shape_of-index-in_default
-shape_of-index-in_default c = c.loop-i.invariant.2
+shape_of-index-in_default c = c.loop-i.invariant.1
 
 pub returns-in_default : goal.returns-in_default
 returns-in_default c =
     let a = c.args in
     filled_equal a.table.now c.loop-i.i a.used a.slots c.loop-i.index _ _ (omega arith) c.word-a.ensures.0 c.word-b.ensures.0 _ _ c.search.ensures c.in_default.is
 
-pub overflow_cast-index : goal.overflow_cast-index
-overflow_cast-index c = omega arith
-
 pub offset_bounds-index-p : goal.offset_bounds-index-p
 offset_bounds-index-p c =
     let a = c.args in
-    let h : c.in-Place.p < length c.loop-i.index = place_in a.table.now c.loop-i.i a.slots c.loop-i.index _ _ _ _ c.loop-i.invariant.1 c.search.ensures c.in-Place.is in
-    let l : length c.loop-i.index ≡ length a.index.now = c.loop-i.invariant.2 in
+    let h : c.in-Place.p < length c.loop-i.index = place_in a.table.now c.loop-i.i a.slots c.loop-i.index _ _ _ _ c.loop-i.invariant.0 c.search.ensures c.in-Place.is in
+    let l : length c.loop-i.index ≡ length a.index.now = c.loop-i.invariant.1 in
     omega arith
 
 pub bounds-index-p : goal.bounds-index-p
 bounds-index-p c =
     let a = c.args in
-    place_in a.table.now c.loop-i.i a.slots c.loop-i.index _ _ _ _ c.loop-i.invariant.1 c.search.ensures c.in-Place.is
-
-pub overflow_add-i-in-loop-i : goal.overflow_add-i-in-loop-i
-overflow_add-i-in-loop-i c = omega arith
-
-pub loop-i-smaller : goal.loop-i-smaller
-loop-i-smaller c = omega arith
+    place_in a.table.now c.loop-i.i a.slots c.loop-i.index _ _ _ _ c.loop-i.invariant.0 c.search.ensures c.in-Place.is
 
 pub loop-i-preserved : goal.loop-i-preserved
 loop-i-preserved c =
     let a = c.args in (
-      omega arith,
-      ready_next a.table.now c.loop-i.i a.slots c.loop-i.index _ _ _ _ c.loop-i.invariant.1 c.search.ensures c.in-Place.is (omega arith) c.word-a.ensures.0 c.word-b.ensures.0 (sym c.if-is_broken.false ∙ c.is_broken.ensures),
-      simp length-set c.loop-i.invariant.2,
+      ready_next a.table.now c.loop-i.i a.slots c.loop-i.index _ _ _ _ c.loop-i.invariant.0 c.search.ensures c.in-Place.is (omega arith) c.word-a.ensures.0 c.word-b.ensures.0 (sym c.if-is_broken.false ∙ c.is_broken.ensures),
+      simp length-set c.loop-i.invariant.1,
     )
 
 pub shape_of-index : goal.shape_of-index
-shape_of-index c = c.loop-i.invariant.2
+shape_of-index c = c.loop-i.invariant.1
 
 pub returns : goal.returns
 returns c =
     let a = c.args in
     let e : c.loop-i.i ≡ a.used = omega arith in
-    let x = subst (λ (k : ℕ). Ready a.table.now k a.slots c.loop-i.index) e c.loop-i.invariant.1 in
+    let x = subst (λ (k : ℕ). Ready a.table.now k a.slots c.loop-i.index) e c.loop-i.invariant.0 in
     (sym x.fine.unbroken, λ q. x)
