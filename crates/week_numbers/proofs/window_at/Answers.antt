@@ -1,11 +1,11 @@
--- `week_numbers::window_at` meets its contract: the packet at a minute of the week, or 13 for another count of numbers. Assumes nothing.
-use mathlib.Core.Path.{sym}
+-- `week_numbers::window_at` meets its contract: the answer of the week, or 13 for another count of numbers. Assumes nothing.
+use Rattle.std.proofs.Common.{sym, ◌∙◌, rules}
 use Rattle.week.specs.Weeks.{window_at}
-use Rattle.week.proofs.Lent.{laid_week, other_count}
+use Rattle.week_numbers.proofs.Made.{refused_lent, given_lent}
 use Rattle.week_numbers.proofs.window_at.Goals as goal
 
-pub returns-then-numbers-ne84 : goal.returns-then-numbers-ne84
-returns-then-numbers-ne84 c = sym (other_count window_at _ _ _ c.if-numbers-ne84.true)
+pub returns-in_err-week_of : goal.returns-in_err-week_of
+returns-in_err-week_of c = search (rules, refused_lent window_at _ c.args.day c.args.minute (sym c.week_of.ensures ∙ c.in_err-week_of.was))
 
 pub returns : goal.returns
-returns c = laid_week window_at _ _ _ c.if-numbers-ne84.false c.week_of-week.ensures c.window_at.ensures
+returns c = c.window_at.ensures ∙ given_lent window_at _ _ _ (sym c.week_of.ensures ∙ c.in_ok-week_of.was)

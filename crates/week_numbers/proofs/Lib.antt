@@ -1,0 +1,2 @@
+-- What the code's arrays hold. Assumes nothing.
+pub mod Made

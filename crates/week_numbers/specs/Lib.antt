@@ -1,0 +1,2 @@
+-- The week that lent numbers are. Assumes nothing: these are definitions.
+pub mod Code
