@@ -1,15 +1,17 @@
 -- The digits allowed follow one another, from the fewest branches to the most. Assumes nothing.
-use Prim.Native.Nat.{ℕ, zero, suc, ◌+◌, ◌-◌, ◌%◌, ◌≤◌, ◌<◌}
+use Prim.Native.Nat.{ℕ, zero, suc, ◌+◌, ◌-◌, ◌%◌, ◌≤◌, ◌<◌, min}
+use mir.Val.{bool_byte}
+use Rattle.std.proofs.lemmas.Bool.{cases_lt}
 use mathlib.Core.Path.{◌≡◌, refl, sym, ap, subst, ◌∙◌}
-use mathlib.Core.Bool.{Bool, true, cond}
+use mathlib.Core.Bool.{Bool, true, false, cond}
 use mathlib.Core.List.{List, [], ◌∷◌}
 use mathlib.Core.Logic.{◌⊎◌, inl, inr}
 use mathlib.Core.Option.{some}
 use native.Mathlib.Omega.{arith}
 use native.Mathlib.Nat.{mod-lt}
 use lib.ListN.{length, get_or}
-use lib.Dec.{leb}
-use borrow.Author.Tests.{leb-true, le-leb, lt-leb, eqb-true, eq-eqb, ne_eqb}
+use lib.Dec.{leb, eqb}
+use borrow.Author.Tests.{leb-true, le-leb, lt-leb, eqb-true, eqb-false, eq-eqb, ne_eqb}
 use Rattle.ternary.specs.Wanted.{wanted_after}
 use Rattle.loads.specs.Loads.{can_end, those, three_digits, allowed, pick}
 
@@ -75,14 +77,18 @@ FewestBranches w a = ((w ≡ 1) × (a ≡ 1)) ⊎ ((w ≡ 1 → ⊥) × (a ≡ 0
 abbrev pub MostBranches : ℕ → ℕ → ℕ → Type 0
 MostBranches left w b = ((left + 1 - w < 2) × (b ≡ left + 1 - w)) ⊎ ((2 ≤ left + 1 - w) × (b ≡ 2))
 
-pub fewest_most : (left w a b : ℕ) → (left ≡ 0 → ⊥) → can_end (left + 1) (some w) ≡ true → FewestBranches w a → MostBranches left w b → (a ≤ b) × (b ≤ 2)
-fewest_most left w a b z e f m = go f m (wanted_between left w e)
+pub fewest_branches : (w a : ℕ) → a ≡ bool_byte (eqb w 1) → FewestBranches w a
+fewest_branches w a e = go (eqb w 1) refl e
   where
-    go : FewestBranches w a → MostBranches left w b → (1 ≤ w) × (w ≤ left + 1) → (a ≤ b) × (b ≤ 2)
-    go (inl (p, q)) (inl (r, s)) h = (omega arith, omega arith)
-    go (inl (p, q)) (inr (r, s)) h = (omega arith, omega arith)
-    go (inr (p, q)) (inl (r, s)) h = (omega arith, omega arith)
-    go (inr (p, q)) (inr (r, s)) h = (omega arith, omega arith)
+    go : (z : Bool) → eqb w 1 ≡ z → a ≡ bool_byte z → FewestBranches w a
+    go true q e = inl (eqb-true w 1 q, e)
+    go false q e = inr (eqb-false w 1 q, e)
+
+pub most_branches : (left w b : ℕ) → 1 ≤ w → b ≡ min (left - (w - 1)) 2 → MostBranches left w b
+most_branches left w b h e = elim (cases_lt (left + 1 - w) 2) [
+  | inl under ↦ inl (under, omega arith)
+  | inr over ↦ inr (over, omega arith)
+]
 
 pub between_taken : (left w draw a b : ℕ) → (left ≡ 0 → ⊥) → can_end (left + 1) (some w) ≡ true → FewestBranches w a → MostBranches left w b → Taken left w draw (a + draw % (b - a + 1))
 unfolding can_end numbers_from

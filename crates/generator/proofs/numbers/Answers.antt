@@ -2,10 +2,10 @@
 use Rattle.loads.specs.Loads.{generated_numbers}
 use Rattle.generator.proofs.numbers.Goals as goal
 
-pub returns-in-Digits : goal.returns-in-Digits
+pub returns-in-Ok : goal.returns-in-Ok
 unfolding generated_numbers
-returns-in-Digits c = rw c.in-Digits.is
+returns-in-Ok c = rw c.in-Ok.is
 
-pub returns-in-Refused : goal.returns-in-Refused
+pub returns-in-Err : goal.returns-in-Err
 unfolding generated_numbers
-returns-in-Refused c = rw (c.in-Refused.is, c.number.ensures)
+returns-in-Err c = rw (c.in-Err.is, c.number.ensures)
