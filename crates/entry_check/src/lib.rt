@@ -19,7 +19,7 @@ fn check_in<const N: usize>(
     used: usize,
     stack: &[u32],
 ) -> Result<(), Refusal>
-    requires { (2 ≤ N / 3) × (N / 3 * 2 + capacity table.now ≤ N) }
+    requires { (2 ≤ N / 3) × (N ≤ 196608) × (N / 3 * 2 + capacity table.now ≤ N) }
     ensures { refusal_of result ≡ at_entry within table.now used stack.now }
 {
     let mut index = [0u16; N];

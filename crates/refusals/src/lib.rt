@@ -4,9 +4,10 @@
 ghost use Rattle.std.specs.Prelude.{◌≡◌};
 ghost use Rattle.table.specs.Refusal.{number, given_numbers};
 
-use table::{Given, Refusal};
+use table::Refusal;
 
 // The number of a refusal.
+#[tactic(auto, unfolding(table::specs::Refusal::number))]
 pub fn number(refusal: Refusal) -> usize
     ensures { result ≡ number refusal }
 {
@@ -29,12 +30,13 @@ pub fn number(refusal: Refusal) -> usize
 }
 
 // The numbers of an answer that gives a number or none.
-pub fn given(answer: Given) -> [usize; 3]
+#[tactic(auto, unfolding(table::specs::Refusal::given_numbers))]
+pub fn given(answer: Result<Option<usize>, Refusal>) -> [usize; 3]
     ensures { result ≡ given_numbers answer }
 {
     match answer {
-        Given::Number(n) => [0, 1, n],
-        Given::Nothing => [0, 0, 0],
-        Given::Refused(refusal) => [number(refusal), 0, 0],
+        Ok(Some(n)) => [0, 1, n],
+        Ok(None) => [0, 0, 0],
+        Err(refusal) => [number(refusal), 0, 0],
     }
 }
