@@ -5,26 +5,29 @@
 ghost use Rattle.std.specs.Prelude.{◌≡◌};
 ghost use Rattle.weights.specs.Weights.{weighed_numbers, ordered_numbers};
 
-use weights::{Ordered, Weighed};
+use std::cmp::Ordering;
+use table::Refusal;
 
 // The refusal, and the grams.
-pub fn weighed(answer: Weighed) -> [usize; 2]
+#[tactic(auto, unfolding(weights::specs::Weights::weighed_numbers))]
+pub fn weighed(answer: Result<usize, Refusal>) -> [usize; 2]
     ensures { result ≡ weighed_numbers answer }
 {
     match answer {
-        Weighed::Grams(grams) => [0, grams],
-        Weighed::Refused(refusal) => [refusals::number(refusal), 0],
+        Ok(grams) => [0, grams],
+        Err(refusal) => [refusals::number(refusal), 0],
     }
 }
 
 // The refusal, and 0 for less, 1 for equal, 2 for greater.
-pub fn ordered(answer: Ordered) -> [usize; 2]
+#[tactic(auto, unfolding(weights::specs::Weights::ordered_numbers))]
+pub fn ordered(answer: Result<Ordering, Refusal>) -> [usize; 2]
     ensures { result ≡ ordered_numbers answer }
 {
     match answer {
-        Ordered::Less => [0, 0],
-        Ordered::Equal => [0, 1],
-        Ordered::Greater => [0, 2],
-        Ordered::Refused(refusal) => [refusals::number(refusal), 0],
+        Ok(Ordering::Less) => [0, 0],
+        Ok(Ordering::Equal) => [0, 1],
+        Ok(Ordering::Greater) => [0, 2],
+        Err(refusal) => [refusals::number(refusal), 0],
     }
 }
