@@ -19,8 +19,6 @@ ghost use Rattle.bracket.specs.Words.{words, Holds};
 ghost use Rattle.translation.specs.Translate.{translate_rule};
 ghost use Rattle.term.specs.Code.{LayAt, PlaceAt};
 
-use checks::Checked;
-use index::Got;
 use table::{Made, Refusal};
 
 // Lays out the tree whose term's words start at `p` of the stack: second branch, first branch, then the node, up to one that has no place.
@@ -31,7 +29,7 @@ fn lay(
     used: usize,
     index: &mut [u16],
     slots: usize,
-) -> Got
+) -> Option<Made>
     requires { LayAt stack.now p × Ready table.old used slots index.old }
     ensures { ((t : Tree) → Holds stack.now p (words (term t))
         → got_by result table.new ≡ lay (record { words = table.old; used = used }) t) × ReadyGot result table.new slots index.new }
@@ -41,23 +39,13 @@ fn lay(
         return index::make(table, used, index, slots, 0, 0);
     }
     if x == 2 {
-        let only = lay(stack, p + 2, table, used, index, slots);
-        let Got::Node { node, used: next } = only else {
-            return Got::Full;
-        };
-        return index::make(table, next, index, slots, node + 1, 0);
+        let only = lay(stack, p + 2, table, used, index, slots)?;
+        return index::make(table, only.used, index, slots, only.node + 1, 0);
     }
-    let u = p + 3;
     let v = p + 1 + (x / 2) as usize;
-    let second = lay(stack, v, table, used, index, slots);
-    let Got::Node { node: b, used: n } = second else {
-        return Got::Full;
-    };
-    let first = lay(stack, u, table, n, index, slots);
-    let Got::Node { node: a, used: m } = first else {
-        return Got::Full;
-    };
-    index::make(table, m, index, slots, a + 1, b + 1)
+    let b = lay(stack, v, table, used, index, slots)?;
+    let a = lay(stack, p + 3, table, b.used, index, slots)?;
+    index::make(table, a.used, index, slots, a.node + 1, b.node + 1)
 }
 
 // Lays out the rule's tree, for which there are frames; `nodes` is its size unshared.
@@ -69,7 +57,7 @@ fn place(
     nodes: usize,
     index: &mut [u16],
     slots: usize,
-) -> Made
+) -> Result<Made, Refusal>
     requires { Ready table.old used slots index.old × PlaceAt stack.old bytes.now nodes }
     ensures { ((t : Term) → rule bytes.now ≡ some t
         → whole result table.new stack.new ≡ laid table.old used stack.old (rule_tree t)) × ReadyMade result table.new slots index.new }
@@ -87,18 +75,12 @@ pub fn translate_rule(
     bytes: &[u8],
     index: &mut [u16],
     slots: usize,
-) -> Made
+) -> Result<Made, Refusal>
     requires { Ready table.old used slots index.old × (length stack.old ≤ 65536) }
     ensures { (whole result table.new stack.new
         ≡ translate_rule table.old used stack.old (rule bytes.now)) × ReadyMade result table.new slots index.new }
 {
-    let nodes = rule_size::rule_size(bytes);
-    if nodes == 0 {
-        return Made::Refused(Refusal::Rule);
-    }
-    let frames = checks::check_frames(stack, 2 * nodes);
-    match frames {
-        Checked::Refused(e) => Made::Refused(e),
-        Checked::Passed => place(table, used, stack, bytes, nodes, index, slots),
-    }
+    let nodes = rule_size::rule_size(bytes).ok_or(Refusal::Rule)?;
+    checks::check_frames(stack, 2 * nodes)?;
+    place(table, used, stack, bytes, nodes, index, slots)
 }
