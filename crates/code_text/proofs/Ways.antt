@@ -2,16 +2,16 @@
 use Prim.Native.Nat.{ℕ, ◌+◌, ◌-◌, ◌/◌, ◌%◌, ◌≤◌, ◌<◌}
 use mathlib.Core.Path.{◌≡◌, refl, sym, ap, ◌∙◌}
 use mathlib.Core.Bool.{Bool, true, false}
-use mathlib.Core.List.{List, [], ◌∷◌, ◌++◌, append_assoc}
+use mathlib.Core.List.{List, [], ◌∷◌, ◌++◌}
 use mathlib.Core.Logic.{◌⊎◌, inl, inr}
 use native.Mathlib.Omega.{arith}
-use lib.ListN.{length, get_or, set, drop, length-append, length-drop, length-set}
-use lib.Seq.{set_at}
+use lib.ListN.{length, get_or, set, take, drop, length-append}
+use lib.Seq.{set_at, drop-length, length-take-le}
 use lib.Dec.{ltb}
 use borrow.Author.Tests.{ltb-true, ltb-false}
 use Rattle.table.specs.Outcome.{whole_out, into_out}
 use Rattle.table.specs.declared.Refusal.TheVariants.{Out}
-use Rattle.table.specs.declared.Given.TheVariants.{Number, Refused}
+use Rattle.table.specs.Refusal.{given, not_given}
 use Rattle.table.proofs.Lists.{from_place}
 use Rattle.table.proofs.Wrote.{into_short, into_written}
 use Rattle.short_codes.specs.Values.{values, numeral}
@@ -40,56 +40,40 @@ some_digit v n e = go (ltb v 3) refl
     go true p = omega (arith, (single_digit v (ltb-true v 3 p)).0)
     go false p = omega (arith, longer v (ltb-false v 3 p))
 
--- the out bytes before the last digit of v is written
-abbrev pub BeforeLast : ℕ → ℕ → List ℕ → List ℕ → Type 0
-BeforeLast v n out out' = ((3 ≤ v) × (out' ≡ numeral (v / 3) ++ drop (n - 1) out)) ⊎ ((v < 3) × (out' ≡ out))
+-- the bytes before the last digit of v is written
+abbrev pub BeforeLast : ℕ → List ℕ → List ℕ → Type 0
+BeforeLast v l l' = ((3 ≤ v) × (l' ≡ numeral (v / 3) ++ drop (length l - 1) l)) ⊎ ((v < 3) × (l' ≡ l))
 
--- the digits before the last one, and that they are written
-record UpToLast (v n : ℕ) (out out' : List ℕ) : Type 0 where
-  digits : List ℕ
-  all : numeral v ≡ digits ++ ((48 + v % 3) ∷ [])
-  bytes : out' ≡ digits ++ drop (n - 1) out
-  many : length digits ≡ n - 1
+module _ (v : ℕ) (l : List ℕ) (e : length l ≡ length (numeral v)) where
+  pub one_byte : 1 ≤ length l
+  one_byte = omega (arith, some_digit v (length l) e)
 
-up_to_last : (v n : ℕ) (out out' : List ℕ) → n ≡ length (numeral v) → BeforeLast v n out out' → UpToLast v n out out'
-up_to_last v n out out' e (inl (h, b)) =
-    record { digits = numeral (v / 3); all = numeral_more v h; bytes = b; many = omega (arith, longer v h) }
-up_to_last v n out out' e (inr (h, b)) =
-    let r : 48 + v ≡ 48 + v % 3 = omega arith in
-    let a : numeral v ≡ (48 + v % 3) ∷ [] = numeral_one v h ∙ ap (λ (d : ℕ). d ∷ []) r in
-    let k : length (numeral v) ≡ 1 = ap length a in
-    let z : n - 1 ≡ 0 = omega arith in
-    record { digits = []; all = a; bytes = rw z b; many = sym z }
+  -- the digits before the last one are as many as the bytes before it
+  pub third_asks : 3 ≤ v → length (take (length l - 1) l) ≡ length (numeral (v / 3))
+  third_asks h = length-take-le (length l - 1) l (omega arith) ∙ omega (arith, longer v h)
 
-module _ (v n : ℕ) (out out' : List ℕ) (e : n ≡ length (numeral v)) (room : n ≤ length out) (b : BeforeLast v n out out') where
-  pub length_kept : length out' ≡ length out
-  length_kept =
-      let g = up_to_last v n out out' e b in
-      ap length g.bytes ∙ length-append g.digits (drop (n - 1) out) ∙ omega (arith, g.many, some_digit v n e, length-drop (n - 1) out)
-
-  pub length_after : length (set out' (n - 1) (48 + v % 3)) ≡ length out
-  length_after = length-set out' (n - 1) (48 + v % 3) ∙ length_kept
-
-  pub last_written : set out' (n - 1) (48 + v % 3) ≡ numeral v ++ drop n out
-  last_written =
-      let g = up_to_last v n out out' e b in
-      let k : n - 1 + 1 ≡ n = omega (arith, some_digit v n e) in
-      let f : drop (n - 1) out ≡ get_or out (n - 1) 0 ∷ drop n out = from_place out (n - 1) 0 (omega (arith, some_digit v n e)) ∙ ap (λ (i : ℕ). get_or out (n - 1) 0 ∷ drop i out) k in
-      ap (λ (l : List ℕ). set l (n - 1) (48 + v % 3)) (g.bytes ∙ ap (λ (l : List ℕ). g.digits ++ l) f)
-      ∙ set_at g.digits (get_or out (n - 1) 0) (drop n out) (48 + v % 3) (n - 1) g.many
-      ∙ sym (append_assoc g.digits ((48 + v % 3) ∷ []) (drop n out)) ∙ ap (λ (l : List ℕ). l ++ drop n out) (sym g.all)
-
--- the digits before the last one are as many and have room
-pub third_asks : (v n : ℕ) (out : List ℕ) → 3 ≤ v → n ≡ length (numeral v) → n ≤ length out → (n - 1 ≡ length (numeral (v / 3))) × (n - 1 ≤ length out)
-third_asks v n out h e room = (omega (arith, longer v h), omega arith)
+  pub last_written : {l' : List ℕ} → BeforeLast v l l' → set l' (length l - 1) (48 + v % 3) ≡ numeral v
+  last_written {l'} (inl (h, b)) =
+      let k : length l - 1 + 1 ≡ length l = omega (arith, one_byte) in
+      let f : drop (length l - 1) l ≡ get_or l (length l - 1) 0 ∷ [] =
+      from_place l (length l - 1) 0 (omega (arith, one_byte)) ∙ ap (λ (i : ℕ). get_or l (length l - 1) 0 ∷ drop i l) k ∙ ap (λ (r : List ℕ). get_or l (length l - 1) 0 ∷ r) (drop-length l) in
+      ap (λ (r : List ℕ). set r (length l - 1) (48 + v % 3)) (b ∙ ap (λ (r : List ℕ). numeral (v / 3) ++ r) f)
+      ∙ set_at (numeral (v / 3)) (get_or l (length l - 1) 0) [] (48 + v % 3) (length l - 1) (omega (arith, longer v h)) ∙ sym (numeral_more v h)
+  last_written {l'} (inr (h, b)) =
+      let r : 48 + v ≡ 48 + v % 3 = omega arith in
+      let a : numeral v ≡ (48 + v % 3) ∷ [] = numeral_one v h ∙ ap (λ (d : ℕ). d ∷ []) r in
+      let n : length l ≡ 1 = e ∙ ap length a in
+      let f : l ≡ get_or l 0 0 ∷ [] = from_place l 0 0 (omega arith) ∙ ap (λ (i : ℕ). get_or l 0 0 ∷ drop i l) (sym n) ∙ ap (λ (r : List ℕ). get_or l 0 0 ∷ r) (drop-length l) in
+      let z : length l - 1 ≡ 0 = omega arith in
+      ap (λ (i : ℕ). set l' i (48 + v % 3)) z ∙ ap (λ (r : List ℕ). set r 0 (48 + v % 3)) (b ∙ f) ∙ sym a
 
 -- the answers of a code below 1,374, whose value has n digits
 module _ (c x n : ℕ) (out : List ℕ) (h : c < 1374) (e : x ≡ get_or values c 0) (k : n ≡ length (numeral x)) where
-  into : code_text c out ≡ into_out Number Refused (numeral x) out
-  into = code_into c out h ∙ ap (λ (y : ℕ). into_out Number Refused (numeral y) out) (sym e)
+  into : code_text c out ≡ into_out given not_given (numeral x) out
+  into = code_into c out h ∙ ap (λ (y : ℕ). into_out given not_given (numeral y) out) (sym e)
 
-  pub short_out : length out < n → whole_out (Refused Out) [] [] out ≡ code_text c out
-  short_out l = sym (into ∙ into_short Number Refused (numeral x) out (omega arith))
+  pub short_out : length out < n → whole_out (not_given Out) [] [] out ≡ code_text c out
+  short_out l = sym (into ∙ into_short given not_given (numeral x) out (omega arith))
 
-  pub text_out : {out' : List ℕ} → n ≤ length out → out' ≡ numeral x ++ drop n out → whole_out (Number n) [] [] out' ≡ code_text c out
-  text_out l q = sym (into ∙ into_written Number Refused (numeral x) out (omega arith) ∙ rw (← k, q))
+  pub text_out : {out' : List ℕ} → n ≤ length out → out' ≡ numeral x ++ drop n out → whole_out (given n) [] [] out' ≡ code_text c out
+  text_out l q = sym (into ∙ into_written given not_given (numeral x) out (omega arith) ∙ rw (← k, q))

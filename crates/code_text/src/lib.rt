@@ -7,7 +7,7 @@ ghost use Rattle.table.specs.Outcome.{whole_out};
 ghost use Rattle.short_codes.specs.Values.{numeral};
 ghost use Rattle.short_codes.specs.ShortCodes.{code_text};
 
-use table::{Given, Refusal};
+use table::Refusal;
 
 // How many codes there are.
 const CODES: usize = 1374;
@@ -22,29 +22,30 @@ fn many_digits(value: usize) -> usize
     many_digits(value / 3) + 1
 }
 
-// Writes the n digits of a value to the first n out bytes.
-fn put_digits(value: usize, n: usize, out: &mut [u8])
-    requires { (n ≡ length (numeral value)) × (n ≤ length out.old) }
-    ensures { out.new ≡ numeral value ++ drop n out.old }
+// Writes the digits of a value over the whole of a slice, which has room for them and no more.
+fn put_digits(value: usize, digits: &mut [u8])
+    requires { length digits.old ≡ length (numeral value) }
+    ensures { digits.new ≡ numeral value }
 {
+    let last = digits.len() - 1;
     if 3 <= value {
-        put_digits(value / 3, n - 1, out);
+        put_digits(value / 3, &mut digits[..last]);
     }
-    out[n - 1] = 48 + (value % 3) as u8;
+    digits[last] = b'0' + (value % 3) as u8;
 }
 
 // Writes the text of a code: none from 1,374 on, whatever out is; then 10.
-pub fn code_text(code: usize, out: &mut [u8]) -> Given
+pub fn code_text(code: usize, out: &mut [u8]) -> Result<Option<usize>, Refusal>
     ensures { whole_out result [] [] out.new ≡ code_text code out.old }
 {
     if CODES <= code {
-        return Given::Nothing;
+        return Ok(None);
     }
     let value = code_values::value_at(code) as usize;
     let n = many_digits(value);
     if out.len() < n {
-        return Given::Refused(Refusal::Out);
+        return Err(Refusal::Out);
     }
-    put_digits(value, n, out);
-    Given::Number(n)
+    put_digits(value, &mut out[..n]);
+    Ok(Some(n))
 }
