@@ -1,6 +1,6 @@
 -- An application told with where it stopped is Apply's, and its stop is where the uses halt. Assumes nothing.
 use Prim.Native.Nat.{ℕ, suc, ◌+◌, ◌-◌, ◌<◌}
-use mathlib.Core.Path.{◌≡◌, refl, sym, ◌∙◌, subst}
+use mathlib.Core.Path.{◌≡◌, refl, sym, ap, ◌∙◌, subst}
 use mathlib.Core.List.{List}
 use native.Mathlib.Omega.{arith}
 use lib.Dec.{leb}
@@ -12,6 +12,9 @@ use Rattle.applying.specs.Machine.{State, wanted, Turn, more, done, stop, after,
 use Rattle.applying.specs.Apply.{settle, begin, apply_nodes, apply}
 use Rattle.applying.specs.Lacks.{Halts, limit_reached, at_use}
 use Rattle.applying.specs.Ended.{Halted, for_steps, for_lack, ended, apply_ended, applied_of, stopped_with}
+use Rattle.applying.specs.declared.Rule.{Rule}
+use Rattle.applying.specs.declared.Stopped.{Stopped}
+use Rattle.table.proofs.Laid.{same_err}
 use Rattle.applying.proofs.States.{uses_add}
 use Rattle.applying.proofs.Cases.{entered_apply}
 use Rattle.applying.proofs.Stops.{lacks_stop}
@@ -38,6 +41,10 @@ halts_in (limit_reached {z} q c) = (z, subst (λ (x : Turn). Halted x Steps z) (
 halts_in {all} {limit} {s} {e} (at_use {z} {j} h q l) =
     let d : j + suc (limit - j - 1) ≡ limit = omega arith in
     (z, rw (← d, uses_add all j (suc (limit - j - 1)) s, q, lacks_stop all z l) for_lack)
+
+-- two stops that are equal are so in each part
+pub stopped_is : {e d : Refusal} {j k : ℕ} {r s : Rule} → stopped_with e j r ≡ stopped_with d k s → (e ≡ d) × (j ≡ k) × (r ≡ s)
+stopped_is q = let p = same_err q in (ap (λ (x : Stopped). x.refusal) p, ap (λ (x : Stopped). x.steps) p, ap (λ (x : Stopped). x.rule) p)
 
 -- the answer at a stop
 pub halted_ends : (u : ℕ) (s : List ℕ) {x : Turn} {e : Refusal} {z : State} → Halted x e z → (ended u s x).answer ≡ stopped_with e (steps z.uses) (wanted z)

@@ -83,10 +83,10 @@ left_goes (translate s b) t = go (translation.translate t.words t.used s b).answ
     go (Err r) e = refused_goes (translate_refused t.words t.used s b r e)
 left_goes (apply s f n limit) t = go (applying.apply t.words t.used s f n limit).answer refl
   where
-    go : (a : Answer) → (applying.apply t.words t.used s f n limit).answer ≡ a
+    go : (a : Result Answer Refusal) → (applying.apply t.words t.used s f n limit).answer ≡ a
         → Goes t (record { words = (applying.apply t.words t.used s f n limit).table; used = (applying.applied_numbers t.used a).used })
     go (Ok m) e =
-        let q = apply_follows t.words t.used s f n limit v u j i e in
+        let q = apply_follows t.words t.used s f n limit m.node m.used m.steps m.uses e in
         record { kept = q.extends.kept; sound_too = λ x. q.fine }
     go (Err r) e = refused_goes (apply_refused t.words t.used s f n limit r e)
 

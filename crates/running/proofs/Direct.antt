@@ -25,6 +25,7 @@ use Rattle.calculus.proofs.Demand3.{demand_3}
 use Rattle.ternary.specs.Text.{text, tree_of}
 use Rattle.ternary.specs.Read.{readable}
 use Rattle.table.proofs.Words.{zero_one}
+use Rattle.table.proofs.Laid.{same_ok}
 use Rattle.ternary.proofs.Reading.{readable_some}
 use Rattle.fields.specs.Packet.{Packet}
 use Rattle.running.specs.Run.{run, ran_numbers, ran_uses, not_ran, ran}
@@ -53,10 +54,11 @@ module _ (w s o l : List ℕ) (m u n : ℕ) (k : Uses) where
       of_stages : {p : Packet} {t : Term} {args : List Tree} {at : (code.Option Stop)} → Checked w s o l p t args → Staged w s o p t args (run w s o l) at → Completes w s o l m u n k
       of_stages c (stops h b e i) = zero_one (cc)
       of_stages {p} {t} {args} c (ends {r = r} {k = j} {z = z} h e no_stop) =
-          let a : j ≡ k = cc in
-          let i : m ≡ steps k = rw (← a) (cc) in
-          let b : z.used ≡ u = cc in
-          let d : n ≡ length (text r) = cc in
+          let same : ran (steps j) z.used (length (text r)) j ≡ ran m u n k = cc in
+          let a : j ≡ k = ap (λ (x : Ran). x.uses) (same_ok same) in
+          let i : m ≡ steps k = rw (← a) (sym (ap (λ (x : Ran). x.steps) (same_ok same))) in
+          let b : z.used ≡ u = ap (λ (x : Ran). x.used) (same_ok same) in
+          let d : n ≡ length (text r) = sym (ap (λ (x : Ran). x.digits) (same_ok same)) in
           let words : (run w s o l).table ≡ z.words = cc in
           let out : (run w s o l).out ≡ text r ++ drop n o = rw d (ap (λ (x : Outcome (Result Ran Refusal)). x.out) e) in
           let x : ApplyAll (rule_tree t) args r k = rw (← a) h.translated in

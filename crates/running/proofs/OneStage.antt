@@ -22,6 +22,7 @@ use Rattle.table.proofs.Words.{zero_one}
 use Rattle.table.proofs.Trees.{extends_refl, extends_trans}
 use Rattle.table.proofs.Making.{has}
 use Rattle.table.proofs.Entry.{enters, lacks_entry}
+use Rattle.table.proofs.Laid.{made_is}
 use Rattle.table.specs.Refusal.{made, not_made}
 use Rattle.table.specs.declared.Made.{Made}
 use Rattle.ternary.specs.Text.{text, most_pending}
@@ -69,8 +70,9 @@ placed_place : (m : Placed) (s : List ℕ) {q : Rattle.table.specs.Outcome.Outco
     → m ≡ record { table = record { words = q.table; used = u' }; node = v }
 unfolding placed
 placed_place m s {q} {v} {u'} e h =
-    let a : m.node ≡ v = cc in
-    let b : m.table.used ≡ u' = cc in
+    let y : made m.node m.table.used ≡ made v u' = cc in
+    let a : m.node ≡ v = (made_is y).0 in
+    let b : m.table.used ≡ u' = (made_is y).1 in
     let c : q.table ≡ m.table.words = cc in
     rw (← a, ← b, c)
 
@@ -119,11 +121,11 @@ translating {w} {s} {o} fit b t is_rule = go r.answer refl
 
     go : (a : (Result Made Refusal)) → r.answer ≡ a → Translating w s o b t
     go (Ok m) e =
-        let g = translate_gives w 0 s b v u e in
+        let g = translate_gives w 0 s b m.node m.used e in
         let c : g.term ≡ t = cc g.is_rule in
         let d = rw c at g.lays.places in
         let p = placed_place g.had.placed_as s g.laid_is e in
-        translated v u e (record {
+        translated m.node m.used e (record {
           stands = record { fine = d.fine; extends = d.extends; stack = zeros_length _ s g.stack };
           had = record {
             frames_enough = rw (← c) g.had.frames_enough;
@@ -176,11 +178,11 @@ reading {w} {s} {o} fit {z} {y} st l x is = go r.answer refl
 
     go : (a : (Result Made Refusal)) → r.answer ≡ a → Reading w s o z y l x
     go (Ok m) e =
-        let g = read_gives z.words z.used y l n u e in
+        let g = read_gives z.words z.used y l m.node m.used e in
         let c = g.places in
         let b : g.tree ≡ x = cc (some_readable g.had.readable_as) in
         let p = placed_place g.had.placed_as y g.laid_is e in
-        read_as n u e (record {
+        read_as m.node m.used e (record {
           stands = record { fine = c.fine; extends = extends_trans st.extends c.extends; stack = zeros_length _ y g.stack ∙ st.stack };
           kept = c.extends.kept;
           root = rw (← b) (has c);

@@ -32,7 +32,7 @@ use Rattle.applying.specs.Apply.{apply, not_applied}
 use Rattle.applying.specs.Ended.{apply_ended, applied_of, Ended, ended_in, stopped_with}
 use Rattle.applying.specs.declared.Rule.{Rule}
 use Rattle.applying.proofs.Follows.{apply_follows}
-use Rattle.applying.proofs.Told.{apply_told, halts_in, halted_ends}
+use Rattle.applying.proofs.Told.{apply_told, halts_in, halted_ends, stopped_is}
 use Rattle.applying.proofs.Complete.{steps_used_up}
 use Rattle.fields.specs.Packet.{Packet}
 use Rattle.running.specs.Run.{after_made_by, after_made, after_applied, writes, applies, reads_by, reads, stages}
@@ -152,15 +152,15 @@ module _ {w s o : List ℕ} (fit : Fit w s o) (p : Packet) (t : Term) (args : Li
             → Tells w s o p t args (tell_applies (i + 1) ns p.limit z.words z.used y o v k) (applies ns p.limit z.words z.used y o v k))
             → Tells w s o p t args (after_ended i k z.used o r (λ w' u' s' v' j. tell_applies (i + 1) ns p.limit w' u' s' o v' (k ⊕ j)) b)
             (after_applied z.used o (answered applied_of r) (λ w' u' s' v' j. applies ns p.limit w' u' s' o v' (k ⊕ j)) (applied_of b))
-        go (Ok m) e on =
-            let q = apply_follows z.words z.used y v n left v' u' l j (rw (← same) (rw e)) in
+        go (Ok came) e on =
+            let q = apply_follows z.words z.used y v n left came.node came.used came.steps came.uses (rw (← same) (rw e)) in
             let table : r.table ≡ (apply z.words z.used y v n left).table = rw (← same) in
             let stack : r.stack ≡ (apply z.words z.used y v n left).stack = rw (← same) in
-            let d : Apply a.tree x (tree_at r.table v') j = rw (a.root.tree, h.tree, ← table) at q.applies in
-            on (record { words = r.table; used = u' }) r.stack v' (k ⊕ j) (before ++ (x ∷ [])) (all_stay st.fine (rw (← table) at q.extends.kept) hs)
+            let d : Apply a.tree x (tree_at r.table came.node) came.uses = rw (a.root.tree, h.tree, ← table) at q.applies in
+            on (record { words = r.table; used = came.used }) r.stack came.node (k ⊕ came.uses) (before ++ (x ∷ [])) (all_stay st.fine (rw (← table) at q.extends.kept) hs)
             (record {
               stands = record { fine = rw table q.fine; extends = extends_trans st.extends (rw (← table) at q.extends); stack = zeros_length _ y (stack ∙ q.stack) ∙ st.stack };
-              tree = tree_at r.table v';
+              tree = tree_at r.table came.node;
               root = record { inside = q.inside; tree = refl };
               so_far = apply_further a.so_far d;
               within_limit = omega (arith, q.within_limit, q.steps_are, a.within_limit);
@@ -175,14 +175,14 @@ module _ {w s o : List ℕ} (fit : Fit w s o) (p : Packet) (t : Term) (args : Li
             })
             (m ∙ sym (append_assoc before (x ∷ []) xs))
             (omega (arith, length-append before (x ∷ [])))
-        go (Err m) q on =
-            let refused : (apply z.words z.used y v n left).answer ≡ not_applied e = rw (← same) (rw q) in
+        go (Err cut) q on =
+            let refused : (apply z.words z.used y v n left).answer ≡ not_applied cut.refusal = rw (← same) (rw q) in
             let table : r.table ≡ (apply z.words z.used y v n left).table = rw (← same) in
             let stack : r.stack ≡ (apply z.words z.used y v n left).stack = rw (← same) in
-            let b = apply_halts z.words z.used y v n left e f a.root.inside h.inside refused in
-            let c = all_stop z.words z.used y v n left e f a.root.inside h.inside refused ns in
+            let b = apply_halts z.words z.used y v n left cut.refusal f a.root.inside h.inside refused in
+            let c = all_stop z.words z.used y v n left cut.refusal f a.root.inside h.inside refused ns in
             let at = halts_in b.halts in
-            let x : ApplyStops w s p t args a.read_table a.placed.node a.read_nodes e =
+            let x : ApplyStops w s p t args a.read_table a.placed.node a.read_nodes cut.refusal =
             record {
               before = before;
               after = xs;
@@ -209,13 +209,13 @@ module _ {w s o : List ℕ} (fit : Fit w s o) (p : Packet) (t : Term) (args : Li
               no_tree = λ c d. in_time xs p.limit a.so_far a.within_limit
                   (λ g i f. steps_used_up z.words z.used y v n left (refused ∙ ap not_applied c) (rw (← a.root.tree, ← h.tree) at f)) (rw m at d);
             } in
-            let g : stopped_with e j d ≡ stopped_with e (steps at.0.uses) (wanted at.0) = sym q ∙ halted_ends z.used y at.1 in
-            let m : j ≡ steps at.0.uses = cc in
+            let g : stopped_with cut.refusal cut.steps cut.rule ≡ stopped_with cut.refusal (steps at.0.uses) (wanted at.0) = sym q ∙ halted_ends z.used y at.1 in
+            let m : cut.steps ≡ steps at.0.uses = (stopped_is g).1 in
             let c = stop_here st (rw (st.stack, ← table) at b.back) r.stack (zeros_length _ y (stack ∙ b.stack) ∙ st.stack) in
             record {
               same = refl;
               staged = stops (in_apply a.translated a.read_all x (ap (λ (y : Table). y.used) x.ends_in)) c.within c.outcome
-                  (at_same place (ap (λ (i : ℕ). steps k + i) m) (cc));
+                  (at_same place (ap (λ (i : ℕ). steps k + i) m) (stopped_is g).2);
             }
 
   -- each text is read: the nodes have the texts' trees, and each digit is at most one new node
