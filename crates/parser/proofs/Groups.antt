@@ -1,14 +1,15 @@
 -- Laws of operands in parentheses and of abstractions. Assumes nothing.
 use Prim.Native.Nat.{ℕ, zero, suc, ◌+◌, ◌*◌, ◌-◌, ◌≤◌, ◌<◌}
 use mathlib.Core.Path.{◌≡◌, refl, sym, ap, subst, ◌∙◌}
-use mathlib.Core.Bool.{Bool, true, false, cond, not}
+use mathlib.Core.Bool.{Bool, true, false, cond}
 use mathlib.Core.List.{List, [], ◌∷◌, ◌++◌, append_assoc, append-nil}
 use native.Mathlib.Omega.{arith}
 use native.Mathlib.Numerals.{add-one}
-use lib.ListN.{length, get_or, drop, set, replicate, length-drop, length-set}
-use lib.Seq.{drop-cons, drop-drop, get_or-set_same, drop-set-lt}
+use lib.ListN.{length, get_or, take, drop, set, replicate, length-drop, length-set}
+use lib.Seq.{get_or-drop, drop-cons, drop-drop, get_or-set_same, drop-set-lt}
 use lib.Dec.{ltb, eqb}
-use borrow.Author.Tests.{ltb-true, ltb-false, lt-ltb, le-ltb, eqb-true, eqb-false, eq-eqb, ne_eqb, not-true, not-false}
+use borrow.Author.Tests.{ltb-true, ltb-false, eqb-true, eqb-false}
+use Rattle.std.proofs.lemmas.Slice.{between_to_end}
 use Rattle.table.specs.Wrote.{Wrote}
 use Rattle.table.proofs.Wrote.{wrote_then}
 use Rattle.grammar.specs.Expression.{Expression, abs}
@@ -18,10 +19,8 @@ use Rattle.grammar.specs.Words.{token, tokens}
 use Rattle.grammar.specs.Postfix.{postfix}
 use Rattle.grammar.proofs.Places.{tokens_at, tokens_end, tokens_length, sign_at, by_token}
 use Rattle.grammar.proofs.Abstractions.{parse_backslash, parse_abstraction}
-use Rattle.operators.proofs.Waits.{put_end}
-use Rattle.parser.specs.Code.{IsName, IsBinder, abstracted_by, RowAsks, Row, Asks, Phrased, Tells, close_group, Room, Bodied}
-use Rattle.parser.specs.declared.Parsed.{Parsed}
-use Rattle.parser.specs.declared.Parsed.TheVariants.{Phrase, Nothing}
+use Rattle.parser.specs.Code.{IsName, IsBinder, abstracted_by, RowAsks, Row, Asks, Phrased, Tells, close_group}
+use Rattle.std.specs.Prelude as code
 use Rattle.parser.proofs.Phrases.{parse_took}
 
 not_closing : (w : ℕ) (e : Expression) (r : List Token) → (w ≡ 41 → ⊥) → enclosed e (token w ∷ r) ≡ nothing
@@ -33,6 +32,11 @@ not_stop : (w : ℕ) (f : List Token → Read) (r : List Token) → (w ≡ 46 �
 unfolding body
 not_stop w f r n =
     by_token (λ (t : Token). body f (t ∷ r) ≡ nothing) w (λ e. refl) (λ e. refl) (λ e. refl) (λ e. refl) (λ e. absurd (n e)) (λ e. refl) (λ e. refl) (λ e. refl) (λ e. refl) refl
+
+not_binder : (w v : ℕ) (f : ℕ → List Token → Read) (r : List Token) → (v ≡ 46 → ⊥) → binder f (token w ∷ (token v ∷ r)) ≡ nothing
+unfolding binder
+not_binder w v f r n =
+    by_token (λ (t : Token). binder f (t ∷ (token v ∷ r)) ≡ nothing) w (λ e. refl) (λ e. refl) (λ e. refl) (λ e. refl) (λ e. refl) (λ e. refl) (λ e. refl) (λ e. refl) (λ e. refl) (not_stop v (f w) r n)
 
 lone : (f : ℕ → List Token → Read) (t : Token) → binder f (t ∷ []) ≡ nothing
 unfolding binder body
@@ -85,14 +89,14 @@ module _ (ws : List ℕ) (at d : ℕ) (Γ : List ℕ) where
         unfolding follow
         closes = opened e n ∙ ap (λ (z : Read). follow z enclosed) q
 
-        pub group_cut : length ws ≤ next → operand d Γ (tokens (drop at ws)) ≡ nothing
+        group_cut : length ws ≤ next → operand d Γ (tokens (drop at ws)) ≡ nothing
         unfolding enclosed
         group_cut l = closes ∙ ap (enclosed x) (tokens_end ws next l)
 
-        pub group_open : next < length ws → (get_or ws next 0 ≡ 41 → ⊥) → operand d Γ (tokens (drop at ws)) ≡ nothing
+        group_open : next < length ws → (get_or ws next 0 ≡ 41 → ⊥) → operand d Γ (tokens (drop at ws)) ≡ nothing
         group_open l c = closes ∙ ap (enclosed x) (tokens_at ws next l) ∙ not_closing (get_or ws next 0) x _ c
 
-        pub group_closed : next < length ws → get_or ws next 0 ≡ 41 → operand d Γ (tokens (drop at ws)) ≡ read x (tokens (drop (next + 1) ws))
+        group_closed : next < length ws → get_or ws next 0 ≡ 41 → operand d Γ (tokens (drop at ws)) ≡ read x (tokens (drop (next + 1) ws))
         unfolding enclosed
         group_closed l c = closes ∙ ap (enclosed x) (sign_at is_closing ws next l c)
 
@@ -101,42 +105,49 @@ module _ (ws : List ℕ) (at d : ℕ) (Γ : List ℕ) where
       unfolding operand operand_by
       binds = ap (operand d Γ) (sign_at is_backslash ws at h e)
 
-      pub binder_cut : length ws - at < 3 → operand d Γ (tokens (drop at ws)) ≡ nothing
+      binder_cut : length ws - at < 3 → operand d Γ (tokens (drop at ws)) ≡ nothing
       binder_cut l = binds ∙ lone_nothing (λ x. parse d (x ∷ Γ) empty) (tokens (drop (at + 1) ws)) (omega (arith, tokens_length (drop (at + 1) ws), length-drop (at + 1) ws))
 
       module _ (l : 3 ≤ length ws - at) where
-        pub binder_unnamed : (b : Bool) → IsName (get_or ws (at + 1) 0) b → not b ≡ true → operand d Γ (tokens (drop at ws)) ≡ nothing
-        binder_unnamed b i z =
+        binder_unnamed : IsName (get_or ws (at + 1) 0) false → operand d Γ (tokens (drop at ws)) ≡ nothing
+        binder_unnamed i =
             binds ∙ ap (binder (λ x. parse d (x ∷ Γ) empty)) (tokens_at ws (at + 1) (omega arith))
-            ∙ (subst (IsName (get_or ws (at + 1) 0)) (not-true b z) i _).0 (λ x. parse d (x ∷ Γ) empty)
+            ∙ (i _).0 (λ x. parse d (x ∷ Γ) empty)
 
-        module _ (t : token (get_or ws (at + 1) 0) ≡ name (get_or ws (at + 1) 0)) where
-          named : operand d Γ (tokens (drop at ws)) ≡ body (λ ts. parse d (get_or ws (at + 1) 0 ∷ Γ) empty ts) (tokens (drop (at + 2) ws))
-          unfolding binder
-          named =
-              let k : at + 1 + 1 ≡ at + 2 = omega arith in
-              binds
-              ∙ ap (binder (λ x. parse d (x ∷ Γ) empty)) (tokens_at ws (at + 1) (omega arith) ∙ ap (λ (u : Token). u ∷ tokens (drop (at + 1 + 1) ws)) t)
-              ∙ ap (λ (j : ℕ). body (λ ts. parse d (get_or ws (at + 1) 0 ∷ Γ) empty ts) (tokens (drop j ws))) k
-
-          pub binder_unstopped : (get_or ws (at + 2) 0 ≡ 46 → ⊥) → operand d Γ (tokens (drop at ws)) ≡ nothing
-          binder_unstopped n = named ∙ ap (body (λ ts. parse d (get_or ws (at + 1) 0 ∷ Γ) empty ts)) (tokens_at ws (at + 2) (omega arith)) ∙ not_stop (get_or ws (at + 2) 0) _ _ n
+        binder_unstopped : (get_or ws (at + 2) 0 ≡ 46 → ⊥) → operand d Γ (tokens (drop at ws)) ≡ nothing
+        binder_unstopped n =
+            let k : at + 1 + 1 ≡ at + 2 = omega arith in
+            binds
+            ∙ ap (binder (λ x. parse d (x ∷ Γ) empty))
+            (tokens_at ws (at + 1) (omega arith) ∙ ap (λ (j : ℕ). token (get_or ws (at + 1) 0) ∷ tokens (drop j ws)) k ∙ ap (λ (ts : List Token). token (get_or ws (at + 1) 0) ∷ ts) (tokens_at ws (at + 2) (omega arith)))
+            ∙ not_binder (get_or ws (at + 1) 0) (get_or ws (at + 2) 0) _ _ n
 
 -- whether an abstraction opens at a place
 module _ (ws : List ℕ) (at : ℕ) where
-  pub no_binder_cut : length ws - at < 3 → IsBinder ws at false
-  no_binder_cut l = λ h e d Γ. binder_cut ws at d Γ h e l
+  -- the words from there on, as the code cuts them
+  abbrev words : List ℕ
+  words = take (length ws - at) (drop at ws)
 
-  pub no_binder_sign : (get_or ws at 0 ≡ 92 → ⊥) → IsBinder ws at false
-  no_binder_sign n = λ h e d Γ. absurd (n e)
+  count : length words ≡ length ws - at
+  count = ap length (between_to_end ws at (length ws) (omega arith)) ∙ length-drop at ws
 
-  module _ (l : 3 ≤ length ws - at) (b : Bool) (i : IsName (get_or ws (at + 1) 0) b) where
-    pub no_binder_name : not b ≡ true → IsBinder ws at false
-    no_binder_name z = λ h e d Γ. binder_unnamed ws at d Γ h e l b i z
+  word : (i j : ℕ) → at + i ≡ j → get_or words i 0 ≡ get_or ws j 0
+  word i j e = ap (λ (l : List ℕ). get_or l i 0) (between_to_end ws at (length ws) (omega arith)) ∙ get_or-drop at ws i 0 ∙ ap (λ (k : ℕ). get_or ws k 0) e
 
-    pub binder_stop : get_or ws at 0 ≡ 92 → not b ≡ false → (s : Bool) → eqb (get_or ws (at + 2) 0) 46 ≡ s → IsBinder ws at s
-    binder_stop e z true q = (l, e, subst (IsName (get_or ws (at + 1) 0)) (not-false b z) i, eqb-true _ _ q)
-    binder_stop e z false q = λ h x d Γ. binder_unstopped ws at d Γ h x l (subst (IsName (get_or ws (at + 1) 0)) (not-false b z) i) (eqb-false _ _ q)
+  pub cut : length words < 3 → IsBinder ws at false
+  cut l = λ h e d Γ. binder_cut ws at d Γ h e (omega (arith, count))
+
+  pub unstopped : 3 ≤ length words → (get_or words 2 0 ≡ 46 → ⊥) → IsBinder ws at false
+  unstopped l n = λ h e d Γ. binder_unstopped ws at d Γ h e (omega (arith, count)) (λ q. n (word 2 (at + 2) refl ∙ q))
+
+  pub stopped : 3 ≤ length words → get_or words 0 0 ≡ 92 → get_or words 2 0 ≡ 46 → (b : Bool) → IsName (get_or words 1 0) b → IsBinder ws at b
+  stopped l e s true i = (
+    omega (arith, count),
+    sym (word 0 at (omega arith)) ∙ e,
+    subst (λ (w : ℕ). IsName w true) (word 1 (at + 1) refl) i,
+    sym (word 2 (at + 2) refl) ∙ s,
+  )
+  stopped l e s false i = λ h z d Γ. binder_unnamed ws at d Γ h z (omega (arith, count)) (subst (λ (w : ℕ). IsName w false) (word 1 (at + 1) refl) i)
 
   binder_tokens : IsBinder ws at true → tokens (drop at ws) ≡ backslash ∷ (name (get_or ws (at + 1) 0) ∷ (stop ∷ tokens (drop (at + 3) ws)))
   binder_tokens i =
@@ -180,7 +191,7 @@ module _ (ws : List ℕ) (at : ℕ) (names : List ℕ) (k : ℕ) (q : RowAsks ws
       }
 
   module _ (n : ℕ) (ms : List ℕ) (v : Row ws at names k n ms) (b : Bool) (i : IsBinder ws (at + 3 * n) b) where
-    pub row_further : b ≡ true → (at + 3 * n + 3 ≤ length ws) × (n < k)
+    row_further : b ≡ true → (at + 3 * n + 3 ≤ length ws) × (n < k)
     row_further z = let l = (subst (IsBinder ws (at + 3 * n)) z i).0 in (omega (arith, l, v.within), omega (arith, l, q.scope))
 
     pub row_more : length ms ≡ length names → b ≡ true → Row ws at names k (n + 1) (set ms (k - n - 1) (get_or ws (at + 3 * n + 1) 0))
@@ -210,44 +221,25 @@ module _ (ws : List ℕ) (at : ℕ) (names : List ℕ) (k : ℕ) (q : RowAsks ws
         let f : at + 3 * n ≡ at = omega arith in
         subst (λ (j : ℕ). IsBinder ws j false) f (subst (IsBinder ws (at + 3 * n)) z i) q.before q.opens
 
+  -- as many as there is room for
+  pub row_full : (n : ℕ) (ms : List ℕ) → Row ws at names k n ms → n ≡ k
+      → Row ws at names k k ms × (k ≡ 0 → (d : ℕ) (Γ : List ℕ) → operand d Γ (tokens (drop at ws)) ≡ nothing)
+  row_full n ms v e = (subst (λ (i : ℕ). Row ws at names k i ms) e v, λ z. absurd (omega (arith, q.before, q.scope)))
+
 -- an operand in parentheses
-module _ (ws : List ℕ) (inner : Parsed) where
-  pub closed_nothing : inner ≡ Nothing → Nothing ≡ close_group ws inner
-  unfolding close_group
-  closed_nothing q = rw q
-
-  module _ (next end : ℕ) (q : inner ≡ Phrase next end) where
-    pub closed_cut : length ws ≤ next → Nothing ≡ close_group ws inner
-    unfolding close_group
-    closed_cut l = rw (q, le-ltb next (length ws) l)
-
-    pub closed_other : next < length ws → (get_or ws next 0 ≡ 41 → ⊥) → Nothing ≡ close_group ws inner
-    unfolding close_group
-    closed_other l n = rw (q, lt-ltb next (length ws) l, ne_eqb (get_or ws next 0) 41 n)
-
-    pub closed_group : next < length ws → get_or ws next 0 ≡ 41 → Phrase (next + 1) end ≡ close_group ws inner
-    unfolding close_group
-    closed_group l e = rw (q, lt-ltb next (length ws) l, eq-eqb (get_or ws next 0) 41 e)
-
 module _ (ws : List ℕ) (at d : ℕ) (Γ : List ℕ) (w : ℕ) (post m : List ℕ) (h : at < length ws) (e : get_or ws at 0 ≡ 40) (n : d ≡ 0 → ⊥) where
-  group_phrase : (next end : ℕ) → Phrased (parse (d - 1) Γ empty (tokens (drop (at + 1) ws))) ws w post m next end
-      → Tells (operand d Γ (tokens (drop at ws))) ws w post m (close_group ws (Phrase next end))
+  pub group_told : (next end : ℕ) → Phrased (parse (d - 1) Γ empty (tokens (drop (at + 1) ws))) ws w post m next end
+      → Tells (operand d Γ (tokens (drop at ws))) ws w post m (close_group ws (record { next = next; end = end }))
   unfolding close_group Tells
-  group_phrase next end o = go (ltb next (length ws)) refl (eqb (get_or ws next 0) 41) refl
+  group_told next end o = go (ltb next (length ws)) refl (eqb (get_or ws next 0) 41) refl
     where
       go : (y : Bool) → ltb next (length ws) ≡ y → (z : Bool) → eqb (get_or ws next 0) 41 ≡ z
-          → Tells (operand d Γ (tokens (drop at ws))) ws w post m (cond y (cond z (Phrase (next + 1) end) Nothing) Nothing)
+          → Tells (operand d Γ (tokens (drop at ws))) ws w post m (cond y (cond z (code.Some (record { next = next + 1; end = end })) code.None) code.None)
       go true p true q =
           let l = ltb-true next (length ws) p in
           record { e = o.e; leads = group_closed ws at d Γ h e n o.e next o.leads l (eqb-true _ _ q); within = omega arith; wrote = o.wrote }
       go true p false q = group_open ws at d Γ h e n o.e next o.leads (ltb-true next (length ws) p) (eqb-false _ _ q)
       go false p z q = group_cut ws at d Γ h e n o.e next o.leads (ltb-false next (length ws) p)
-
-  pub group_told : (inner : Parsed) → Tells (parse (d - 1) Γ empty (tokens (drop (at + 1) ws))) ws w post m inner
-      → Tells (operand d Γ (tokens (drop at ws))) ws w post m (close_group ws inner)
-  unfolding close_group Tells
-  group_told (Phrase next end) o = group_phrase next end o
-  group_told Nothing o = group_nothing ws at d Γ h e n o
 
 -- n abstractions around an expression
 unfoldable abs_by : ℕ → Expression → Expression
@@ -269,39 +261,13 @@ unfolding abstracted_by abstracted abs_by
 by_read zero e r = refl
 by_read (suc n) e r = by_read n (abs e) r
 
--- the symbols of abstractions
-module _ (post : List ℕ) (inner : Parsed) (n : ℕ) where
-  pub bodied_nothing : inner ≡ Nothing → Bodied post inner n Nothing post
-  unfolding Bodied
-  bodied_nothing q = rw q (refl, refl)
-
-  module _ (next end : ℕ) (q : inner ≡ Phrase next end) where
-    pub room_phrase : Room post inner n → end + n ≤ length post
-    unfolding Room
-    room_phrase h = rw q at h
-
-    pub bodied_phrase : (m : List ℕ) (e : ℕ) → Wrote post end (replicate n 4) e m → Bodied post inner n (Phrase next e) m
-    unfolding Bodied
-    bodied_phrase m e w = let f = put_end post m end n 4 e w in rw (q, f) (refl, rw f at w)
-
 -- the operand that a row of abstractions and its body are
 module _ (ws : List ℕ) (at d : ℕ) (names : List ℕ) (k : ℕ) (post : List ℕ) (w : ℕ) (q : Asks ws at names k post w) (n : ℕ) (ms : List ℕ)
     (y : length ms ≡ length names) (v : Row ws at names k n ms) where
-  pub body_asks : Asks ws (at + 3 * n) ms (k - n) post w
-  body_asks = record {
-    within = v.within;
-    few = q.few;
-    space = q.space;
-    room = omega (arith, q.room);
-    scope = omega (arith, q.scope, v.fits);
-    inside = omega (arith, q.inside);
-    short = omega (arith, q.short);
-  }
-
   module _ (m : List ℕ) (x : length m ≡ length post) where
     module _ (next end : ℕ) (o : Phrased (parse d (drop (k - n) ms) empty (tokens (drop (at + 3 * n) ws))) ws w post m next end) where
-      room : end + n ≤ length m
-      room = omega (
+      pub body_room : end + n ≤ length m
+      body_room = omega (
         arith,
         parse_took d (drop (k - n) ms) ws (at + 3 * n) next o.e v.within o.within o.leads,
         o.within,
@@ -310,21 +276,13 @@ module _ (ws : List ℕ) (at d : ℕ) (names : List ℕ) (k : ℕ) (post : List 
         q.space,
       )
 
-      body_phrase : (l : List ℕ) → Wrote m end (replicate n 4) (end + n) l → Phrased (operand d (drop k names) (tokens (drop at ws))) ws w post l next (end + n)
-      body_phrase l b = record {
+      pub body_told : (l : List ℕ) (e : ℕ) → Wrote m end (replicate n 4) e l → Phrased (operand d (drop k names) (tokens (drop at ws))) ws w post l next e
+      body_told l e b = record {
         e = abs_by n o.e;
         leads = v.leads d ∙ ap (abstracted_by n) o.leads ∙ by_read n o.e _;
         within = o.within;
-        wrote = rw (abs_by_symbols n o.e) at (wrote_then post m l (postfix o.e) (replicate n 4) w end (end + n) x o.wrote b);
+        wrote = rw (abs_by_symbols n o.e) at (wrote_then post m l (postfix o.e) (replicate n 4) w end e x o.wrote b);
       }
 
-    pub body_room : (inner : Parsed) → Tells (parse d (drop (k - n) ms) empty (tokens (drop (at + 3 * n) ws))) ws w post m inner → Room m inner n
-    unfolding Tells Room
-    body_room (Phrase next end) o = room next end o
-    body_room Nothing o = tt
-
-    pub body_told : (inner r : Parsed) (l : List ℕ) → Tells (parse d (drop (k - n) ms) empty (tokens (drop (at + 3 * n) ws))) ws w post m inner
-        → Bodied m inner n r l → Tells (operand d (drop k names) (tokens (drop at ws))) ws w post l r
-    unfolding Tells Bodied
-    body_told (Phrase next end) r l o b = rw b.0 (body_phrase next end o l b.1)
-    body_told Nothing r l o b = rw b.0 (v.leads d ∙ ap (abstracted_by n) o ∙ by_nothing n)
+    pub body_none : parse d (drop (k - n) ms) empty (tokens (drop (at + 3 * n) ws)) ≡ nothing → operand d (drop k names) (tokens (drop at ws)) ≡ nothing
+    body_none o = v.leads d ∙ ap (abstracted_by n) o ∙ by_nothing n

@@ -17,17 +17,15 @@ use Rattle.grammar.proofs.Places.{tokens_at, sign_at}
 use Rattle.table.proofs.Words.{zero_one}
 use Rattle.table.proofs.Wrote.{wrote_one}
 use Rattle.parser.specs.Code.{place_of, IsName, Asks, Tells}
-use Rattle.parser.specs.declared.Parsed.TheVariants.{Phrase, Nothing}
-use Rattle.parser.specs.declared.Place.{Place}
-use Rattle.parser.specs.declared.Place.TheVariants.{At, Nowhere}
+use Rattle.std.specs.Prelude as code
 
 -- where a name was found
-pub found_at : (o : Option ℕ) (r : Place) (i : ℕ) → r ≡ place_of o → r ≡ At i → o ≡ some i
+pub found_at : (o : Option ℕ) (r : code.Option ℕ) (i : ℕ) → r ≡ place_of o → r ≡ code.Some i → o ≡ some i
 unfolding place_of
 found_at none r i q e = zero_one (cc)
 found_at (some j) r i q e = cc
 
-pub found_none : (o : Option ℕ) (r : Place) → r ≡ place_of o → r ≡ Nowhere → o ≡ none
+pub found_none : (o : Option ℕ) (r : code.Option ℕ) → r ≡ place_of o → r ≡ code.None → o ≡ none
 unfolding place_of
 found_none none r q e = refl
 found_none (some j) r q e = zero_one (cc)
@@ -55,12 +53,12 @@ pub lookup_less : (ns : List ℕ) (k x i : ℕ) → lookup (drop k ns) x ≡ som
 lookup_less ns k x i e = let h : Below (length (drop k ns)) (some i) = rw e at (below (drop k ns) x) in omega (arith, h, length-drop k ns)
 
 module _ (ws : List ℕ) (at : ℕ) (names : List ℕ) (k : ℕ) (post : List ℕ) (w : ℕ) (q : Asks ws at names k post w) (h : at < length ws) where
-  pub atom_leaf : (d : ℕ) → get_or ws at 0 ≡ 94 → Tells (operand d (drop k names) (tokens (drop at ws))) ws w post (set post w 6) (Phrase (at + 1) (w + 1))
+  pub atom_leaf : (d : ℕ) → get_or ws at 0 ≡ 94 → Tells (operand d (drop k names) (tokens (drop at ws))) ws w post (set post w 6) (code.Some (record { next = at + 1; end = w + 1 }))
   unfolding Tells operand operand_by postfix
   atom_leaf d e = record { e = leaf; leads = ap (operand d (drop k names)) (sign_at is_caret ws at h e); within = omega arith; wrote = wrote_one post w 6 (omega (arith, q.room, q.space)) }
 
   pub atom_other : (d : ℕ) (b : Bool) → IsName (get_or ws at 0) b → not b ≡ true → (get_or ws at 0 ≡ 94 → ⊥) → (get_or ws at 0 ≡ 40 → ⊥) → (get_or ws at 0 ≡ 92 → ⊥)
-      → Tells (operand d (drop k names) (tokens (drop at ws))) ws w post post Nothing
+      → Tells (operand d (drop k names) (tokens (drop at ws))) ws w post post code.None
   unfolding Tells
   atom_other d b n e x y z = rw (tokens_at ws at h) ((subst (IsName (get_or ws at 0)) (not-true b e) n (tokens (drop (at + 1) ws))).1 d (drop k names) x y z)
 
@@ -71,12 +69,12 @@ module _ (ws : List ℕ) (at : ℕ) (names : List ℕ) (k : ℕ) (post : List �
       ap (operand d (drop k names)) (tokens_at ws at h ∙ ap (λ (t : Token). t ∷ tokens (drop (at + 1) ws)) (subst (IsName (get_or ws at 0)) (not-false b e) n))
 
   pub atom_unbound : (d : ℕ) (b : Bool) → IsName (get_or ws at 0) b → not b ≡ false → lookup (drop k names) (get_or ws at 0) ≡ none
-      → Tells (operand d (drop k names) (tokens (drop at ws))) ws w post post Nothing
+      → Tells (operand d (drop k names) (tokens (drop at ws))) ws w post post code.None
   unfolding Tells variable
   atom_unbound d b n e o = named d b n e ∙ ap (λ (o : Option ℕ). variable o (tokens (drop (at + 1) ws))) o
 
   pub atom_bound : (d : ℕ) (b : Bool) (i : ℕ) → IsName (get_or ws at 0) b → not b ≡ false → lookup (drop k names) (get_or ws at 0) ≡ some i
-      → Tells (operand d (drop k names) (tokens (drop at ws))) ws w post (set post w (i + 7)) (Phrase (at + 1) (w + 1))
+      → Tells (operand d (drop k names) (tokens (drop at ws))) ws w post (set post w (i + 7)) (code.Some (record { next = at + 1; end = w + 1 }))
   unfolding Tells variable postfix
   atom_bound d b i n e o = record {
     e = var i;

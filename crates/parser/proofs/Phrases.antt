@@ -18,25 +18,25 @@ use Rattle.operators.specs.declared.Waiting.{Waiting}
 use Rattle.operators.specs.declared.Step.{Step}
 use Rattle.operators.specs.declared.Step.TheVariants as step
 use Rattle.parser.specs.Code.{Asks, Phrased, Tells}
-use Rattle.parser.specs.declared.Parsed.{Parsed}
-use Rattle.parser.specs.declared.Parsed.TheVariants.{Phrase, Nothing}
+use Rattle.std.specs.Prelude as code
+use Rattle.parser.specs.declared.Phrase.{Phrase}
 
-module _ (x : Read) (ws : List ℕ) (w : ℕ) (post m : List ℕ) (r : Parsed) where
-  pub told_phrase : Tells x ws w post m r → {n e : ℕ} → r ≡ Phrase n e → Phrased x ws w post m n e
+module _ (x : Read) (ws : List ℕ) (w : ℕ) (post m : List ℕ) (r : code.Option Phrase) where
+  pub told_phrase : Tells x ws w post m r → {p : Phrase} → r ≡ code.Some p → Phrased x ws w post m p.next p.end
   unfolding Tells
   told_phrase h e = subst (Tells x ws w post m) e h
 
-  pub told_nothing : Tells x ws w post m r → r ≡ Nothing → x ≡ nothing
+  pub told_nothing : Tells x ws w post m r → r ≡ code.None → x ≡ nothing
   unfolding Tells
   told_nothing h e = subst (Tells x ws w post m) e h
 
-pub tell : {x : Read} {ws : List ℕ} {w : ℕ} {post m : List ℕ} {n e : ℕ} → Phrased x ws w post m n e → Tells x ws w post m (Phrase n e)
+pub tell : {x : Read} {ws : List ℕ} {w : ℕ} {post m : List ℕ} {n e : ℕ} → Phrased x ws w post m n e → Tells x ws w post m (code.Some (record { next = n; end = e }))
 unfolding Tells
 tell h = h
 
-pub tell_nothing : (x : Read) (ws : List ℕ) (w : ℕ) (post m : List ℕ) → x ≡ nothing → Tells x ws w post m Nothing
+pub tell_nothing : (x : Read) (ws : List ℕ) (w : ℕ) (post m : List ℕ) (r : code.Option Phrase) → x ≡ nothing → r ≡ code.None → Tells x ws w post m r
 unfolding Tells
-tell_nothing x ws w post m h = h
+tell_nothing x ws w post m r h e = subst (Tells x ws w post m) (sym e) h
 
 module _ (d : ℕ) (Γ ws : List ℕ) (at next : ℕ) (e : Expression) (h : at ≤ length ws) (l : next ≤ length ws) where
   pub operand_took : operand d Γ (tokens (drop at ws)) ≡ read e (tokens (drop next ws)) → length (postfix e) + 1 + 2 * at ≤ 2 * next
@@ -75,17 +75,6 @@ module _ (ws : List ℕ) (at d : ℕ) (names₀ : List ℕ) (k : ℕ) (post₀ :
   })
 
   module _ (names post : List ℕ) (W : Waiting) (v : Carried ws at d names₀ k post₀ w names post W) where
-    pub carried_asks : Asks ws W.at names k post W.end
-    carried_asks = record {
-      within = v.goes.within;
-      few = q.few;
-      space = omega (arith, q.space, v.post_length);
-      room = omega (arith, v.goes.room);
-      scope = omega (arith, q.scope, v.later);
-      inside = omega (arith, q.inside, v.names_length);
-      short = omega (arith, q.short, v.names_length);
-    }
-
     pub carried_nothing : operand d (drop k names) (tokens (drop W.at ws)) ≡ nothing → parse d (drop k names₀) empty (tokens (drop at ws)) ≡ nothing
     unfolding follow
     carried_nothing h = v.goes.leads ∙ ap (λ (z : Read). follow z (λ a s. more d (drop k names₀) v.goes.p (applied v.goes.f a) s)) (subst (λ (Γ : List ℕ). operand d Γ (tokens (drop W.at ws)) ≡ nothing) v.same h)
@@ -119,15 +108,15 @@ module _ (ws : List ℕ) (at d : ℕ) (names₀ : List ℕ) (k : ℕ) (post₀ :
       leads = v.goes.leads ∙ ap (λ (z : Read). follow z (λ a s. more d (drop k names₀) v.goes.p (applied v.goes.f a) s))
           (subst (λ (Γ : List ℕ). operand d Γ (tokens (drop W.at ws)) ≡ read o.e (tokens (drop next ws))) v.same o.leads)
 
-      module _ (r : Step) (l : List ℕ)
+      module _ (r : code.Option Step) (l : List ℕ)
           (s : Afters d (drop k names₀) v.goes.p v.goes.f o.e (take w post₀) ws next m e W r l) where
-        stepped : {t : Step} → r ≡ t
+        stepped : {t : code.Option Step} → r ≡ t
             → Stepped d (drop k names₀) (more d (drop k names₀) v.goes.p (applied v.goes.f o.e) (tokens (drop next ws))) (take w post₀) ws l next t
         unfolding Afters
         stepped z = subst (Stepped d (drop k names₀) (more d (drop k names₀) v.goes.p (applied v.goes.f o.e) (tokens (drop next ws))) (take w post₀) ws l next) z
             (s v.goes.counts front)
 
-        pub carried_more : {U : Waiting} → r ≡ step.More U → (names' : List ℕ) → drop k names' ≡ drop k names → length names' ≡ length names
+        pub carried_more : {U : Waiting} → r ≡ code.Some (step.More U) → (names' : List ℕ) → drop k names' ≡ drop k names → length names' ≡ length names
             → length l ≡ length post → Carried ws at d names₀ k post₀ w names' l U × (W.at < U.at) × (U.at ≤ length ws)
         carried_more z names' y u t =
             let g = stepped z in (
@@ -150,7 +139,7 @@ module _ (ws : List ℕ) (at d : ℕ) (names₀ : List ℕ) (k : ℕ) (post₀ :
               g.0.within,
             )
 
-        pub carried_done : {b : ℕ} → r ≡ step.Done b → length l ≡ length post
+        pub carried_done : {b : ℕ} → r ≡ code.Some (step.Done b) → length l ≡ length post
             → Phrased (parse d (drop k names₀) empty (tokens (drop at ws))) ws w post₀ l next b
         carried_done {b} z t =
             let g = stepped z in
@@ -167,5 +156,5 @@ module _ (ws : List ℕ) (at d : ℕ) (names₀ : List ℕ) (k : ℕ) (post₀ :
               };
             }
 
-        pub carried_broken : r ≡ step.Broken → parse d (drop k names₀) empty (tokens (drop at ws)) ≡ nothing
+        pub carried_broken : r ≡ code.None → parse d (drop k names₀) empty (tokens (drop at ws)) ≡ nothing
         carried_broken z = leads ∙ stepped z

@@ -7,14 +7,12 @@ use Rattle.grammar.specs.Tokens.{Token, name}
 use Rattle.grammar.specs.Reader.{Read, nothing, read, empty, abstracted, binder, parse, operand}
 use Rattle.grammar.specs.Words.{token, tokens}
 use Rattle.grammar.specs.Postfix.{postfix}
-use Rattle.parser.specs.declared.Parsed.{Parsed}
-use Rattle.parser.specs.declared.Parsed.TheVariants.{Phrase, Nothing}
-use Rattle.parser.specs.declared.Place.{Place}
-use Rattle.parser.specs.declared.Place.TheVariants.{At, Nowhere}
+use Rattle.std.specs.Prelude as code
+use Rattle.parser.specs.declared.Phrase.{Phrase}
 
-unfoldable pub place_of : Option ℕ → Place
-place_of none = Nowhere
-place_of (some i) = At i
+unfoldable pub place_of : Option ℕ → code.Option ℕ
+place_of none = code.None
+place_of (some i) = code.Some i
 
 -- Whether a word is a name. One that is none begins no binder, and no operand but a leaf, parentheses or an abstraction.
 abbrev pub IsName : ℕ → Bool → Type 0
@@ -66,21 +64,11 @@ pub record Phrased (x : Read) (ws : List ℕ) (w : ℕ) (post m : List ℕ) (nex
   pub within : next ≤ length ws
   pub wrote : Wrote post w (postfix e) end m
 
-unfoldable pub Tells : Read → List ℕ → ℕ → List ℕ → List ℕ → Parsed → Type 0
-Tells x ws w post m (Phrase next end) = Phrased x ws w post m next end
-Tells x ws w post m Nothing = x ≡ nothing
+unfoldable pub Tells : Read → List ℕ → ℕ → List ℕ → List ℕ → code.Option Phrase → Type 0
+Tells x ws w post m (code.Some r) = Phrased x ws w post m r.next r.end
+Tells x ws w post m code.None = x ≡ nothing
 
--- parentheses around a phrase
-unfoldable pub close_group : List ℕ → Parsed → Parsed
-close_group ws (Phrase next end) = cond (ltb next (length ws)) (cond (eqb (get_or ws next 0) 41) (Phrase (next + 1) end) Nothing) Nothing
-close_group ws Nothing = Nothing
-
--- room for the symbols of n abstractions after their body's
-unfoldable pub Room : List ℕ → Parsed → ℕ → Type 0
-Room post (Phrase next end) n = end + n ≤ length post
-Room post Nothing n = Unit {0}
-
--- the symbols of n abstractions after their body's
-unfoldable pub Bodied : List ℕ → Parsed → ℕ → Parsed → List ℕ → Type 0
-Bodied post (Phrase next end) n r m = (r ≡ Phrase next (end + n)) × Wrote post end (replicate n 4) (end + n) m
-Bodied post Nothing n r m = (r ≡ Nothing) × (m ≡ post)
+-- parentheses around a phrase, where the closing one follows it
+unfoldable pub close_group : List ℕ → Phrase → code.Option Phrase
+close_group ws r =
+    cond (ltb r.next (length ws)) (cond (eqb (get_or ws r.next 0) 41) (code.Some (record { next = r.next + 1; end = r.end })) code.None) code.None

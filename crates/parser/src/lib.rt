@@ -7,94 +7,65 @@
 ghost use Rattle.std.specs.Prelude.{◌≡◌, List, ℕ, ◌≤◌, ◌<◌, length, get_or, drop};
 ghost use Rattle.grammar.specs.Reader.{nothing, empty, lookup, parse, operand};
 ghost use Rattle.grammar.specs.Words.{tokens};
-ghost use Rattle.parser.specs.Code.{place_of, IsName, IsBinder, RowAsks, Row, Asks, Tells, close_group, Room, Bodied};
+ghost use Rattle.parser.specs.Code.{place_of, IsName, IsBinder, RowAsks, Row, Asks, Tells, close_group};
 
-use operators::Step;
+use operators::{
+    ABSTRACTION, AMPERSAND, ARROW, BACKSLASH, BANG, BAR, CARET, CLOSING, FIRST_VARIABLE, LEAF,
+    OPENING, STOP, Step,
+};
 
-// What a phrase gives: the places after its words and after its symbols, or none.
+// What a phrase gives: the places after its words and after its symbols.
 #[derive(Clone, Copy)]
-pub enum Parsed {
-    Phrase { next: usize, end: usize },
-    Nothing,
+pub struct Phrase {
+    pub next: usize,
+    pub end: usize,
 }
 
-// How many abstractions lie between a name and its own.
-#[derive(Clone, Copy)]
-enum Place {
-    At(usize),
-    Nowhere,
-}
-
-// Looks for a name among those around, the nearest of which is at `from`.
-fn find(names: &[u64], from: usize, x: u64) -> Place
+// Looks for a name among those around, the nearest of which is at `from`: how many abstractions lie between the name and its own.
+fn find(names: &[u64], from: usize, x: u64) -> Option<usize>
     requires { from ≤ length names.now }
     ensures { result ≡ place_of (lookup (drop from names.now) x) }
 {
-    let mut i = 0;
-    while from + i < names.len() {
-        if x == names[from + i] {
-            return Place::At(i);
-        }
-        i += 1;
-    }
-    Place::Nowhere
+    names[from..].iter().position(|&y| x == y)
 }
 
 // Whether a word is a name.
 fn is_name(t: u64) -> bool
     ensures { IsName t result }
 {
-    if t == 94 {
-        return false;
-    }
-    if t == 40 {
-        return false;
-    }
-    if t == 92 {
-        return false;
-    }
-    if t == 41 {
-        return false;
-    }
-    if t == 46 {
-        return false;
-    }
-    if t == 33 {
-        return false;
-    }
-    if t == 38 {
-        return false;
-    }
-    if t == 124 {
-        return false;
-    }
-    t != 62
+    !matches!(
+        t,
+        BANG | AMPERSAND | OPENING | CLOSING | STOP | ARROW | BACKSLASH | CARET | BAR
+    )
 }
 
 // A leaf or a name.
-fn atom(words: &[u64], at: usize, names: &[u64], k: usize, post: &mut [u16], w: usize) -> Parsed
+fn atom(
+    words: &[u64],
+    at: usize,
+    names: &[u64],
+    k: usize,
+    post: &mut [u16],
+    w: usize,
+) -> Option<Phrase>
     requires { Asks words.now at names.now k post.old w × (at < length words.now) × (get_or words.now at 0 ≡ 40 → ⊥) × (get_or words.now at 0 ≡ 92 → ⊥) }
     ensures { (d : ℕ) → Tells (operand d (drop k names.now) (tokens (drop at words.now))) words.now w post.old post.new result }
 {
     let t = words[at];
-    if t == 94 {
-        post[w] = 6;
-        return Parsed::Phrase {
-            next: at + 1,
-            end: w + 1,
-        };
-    }
-    if !is_name(t) {
-        return Parsed::Nothing;
-    }
-    let Place::At(i) = find(names, k, t) else {
-        return Parsed::Nothing;
-    };
-    post[w] = (i + 7) as u16;
-    Parsed::Phrase {
+    let phrase = Phrase {
         next: at + 1,
         end: w + 1,
+    };
+    if t == CARET {
+        post[w] = LEAF;
+        return Some(phrase);
     }
+    if !is_name(t) {
+        return None;
+    }
+    let i = find(names, k, t)?;
+    post[w] = i as u16 + FIRST_VARIABLE;
+    Some(phrase)
 }
 
 // Whether an abstraction opens at a place: a backslash, a name and a full stop.
@@ -102,62 +73,42 @@ fn is_binder(words: &[u64], at: usize) -> bool
     requires { at ≤ length words.now }
     ensures { IsBinder words.now at result }
 {
-    if words.len() - at < 3 {
+    let [BACKSLASH, t, STOP, ..] = &words[at..] else {
         return false;
-    }
-    if words[at] != 92 {
-        return false;
-    }
-    if !is_name(words[at + 1]) {
-        return false;
-    }
-    words[at + 2] == 46
+    };
+    is_name(*t)
 }
 
-// How many abstractions a row of them opens from the backslash at `at` on. Their names go before those around.
+// How many abstractions a row of them opens from the backslash at `at` on: a count, 0 where the backslash opens none. Their names go before those around.
 fn open_abstractions(words: &[u64], at: usize, names: &mut [u64], k: usize) -> usize
     requires { RowAsks words.now at names.old k }
     ensures { Row words.now at names.old k result names.new
         × (result ≡ 0 → (d : ℕ) (Γ : List ℕ) → operand d Γ (tokens (drop at words.now)) ≡ nothing) }
 {
-    let mut n = 0;
-    while is_binder(words, at + 3 * n) {
+    for n in 0..k {
+        if !is_binder(words, at + 3 * n) {
+            return n;
+        }
         names[k - n - 1] = words[at + 3 * n + 1];
-        n += 1;
     }
-    n
+    k
 }
 
 // The operand in parentheses, of which `inner` is the inside: the closing one follows it.
-fn close_group(words: &[u64], inner: Parsed) -> Parsed
-    requires { length words.now ≤ 8192 }
+#[tactic(auto, unfolding(crate::specs::Code::close_group))]
+fn close_group(words: &[u64], inner: Phrase) -> Option<Phrase>
     ensures { result ≡ close_group words.now inner }
 {
-    let Parsed::Phrase { next, end } = inner else {
-        return Parsed::Nothing;
-    };
-    if words.len() <= next {
-        return Parsed::Nothing;
+    if words.len() <= inner.next {
+        return None;
     }
-    if words[next] != 41 {
-        return Parsed::Nothing;
+    if words[inner.next] != CLOSING {
+        return None;
     }
-    Parsed::Phrase {
-        next: next + 1,
-        end,
-    }
-}
-
-// The n abstractions around a body, which is `inner`: their symbols follow the body's.
-fn close_abstractions(post: &mut [u16], inner: Parsed, n: usize) -> Parsed
-    requires { Room post.old inner n }
-    ensures { Bodied post.old inner n result post.new }
-{
-    let Parsed::Phrase { next, end } = inner else {
-        return Parsed::Nothing;
-    };
-    let after = operators::put(post, end, n, 4);
-    Parsed::Phrase { next, end: after }
+    Some(Phrase {
+        next: inner.next + 1,
+        ..inner
+    })
 }
 
 // An operand. Parentheses may nest `depth` deep in it.
@@ -170,29 +121,30 @@ fn operand(
     k: usize,
     post: &mut [u16],
     w: usize,
-) -> Parsed
+) -> Option<Phrase>
     requires { Asks words.now at names.old k post.old w }
     ensures { Tells (operand depth (drop k names.old) (tokens (drop at words.now))) words.now w post.old post.new result
         × (drop k names.new ≡ drop k names.old) }
 {
     if words.len() <= at {
-        return Parsed::Nothing;
+        return None;
     }
     let t = words[at];
-    if t == 40 {
+    if t == OPENING {
         if depth == 0 {
-            return Parsed::Nothing;
+            return None;
         }
-        let inner = expression(words, at + 1, depth - 1, names, k, post, w);
+        let inner = expression(words, at + 1, depth - 1, names, k, post, w)?;
         return close_group(words, inner);
     }
-    if t == 92 {
+    if t == BACKSLASH {
         let n = open_abstractions(words, at, names, k);
         if n == 0 {
-            return Parsed::Nothing;
+            return None;
         }
-        let body = expression(words, at + 3 * n, depth, names, k - n, post, w);
-        return close_abstractions(post, body, n);
+        let body = expression(words, at + 3 * n, depth, names, k - n, post, w)?;
+        let end = operators::put(post, body.end, n, ABSTRACTION);
+        return Some(Phrase { end, ..body });
     }
     atom(words, at, names, k, post, w)
 }
@@ -207,7 +159,7 @@ pub fn expression(
     k: usize,
     post: &mut [u16],
     w: usize,
-) -> Parsed
+) -> Option<Phrase>
     requires { Asks words.now at names.old k post.old w }
     ensures { Tells (parse depth (drop k names.old) empty (tokens (drop at words.now))) words.now w post.old post.new result
         × (drop k names.new ≡ drop k names.old) }
@@ -216,13 +168,10 @@ pub fn expression(
     loop {
         let from = waiting.at;
         let place = waiting.end;
-        let Parsed::Phrase { next, end } = operand(words, from, depth, names, k, post, place) else {
-            return Parsed::Nothing;
-        };
-        match operators::after(words, next, post, end, waiting) {
+        let Phrase { next, end } = operand(words, from, depth, names, k, post, place)?;
+        match operators::after(words, next, post, end, waiting)? {
             Step::More(more) => waiting = more,
-            Step::Done(done) => return Parsed::Phrase { next, end: done },
-            Step::Broken => return Parsed::Nothing,
+            Step::Done(done) => return Some(Phrase { next, end: done }),
         }
     }
 }
