@@ -9,8 +9,7 @@ ghost use Rattle.index.specs.Code.{got_by, ReadyGot, ReadyMade};
 ghost use Rattle.labelled.specs.Label as labelling;
 ghost use Rattle.label.specs.Code.{constant_nodes, spread_nodes, rule_nodes, whole_nodes};
 
-use index::Got;
-use table::Made;
+use table::{Made, Refusal};
 
 // The nodes of KK after the leaf: its stem, and the fork of both.
 fn make_constant(
@@ -19,18 +18,12 @@ fn make_constant(
     leaf: usize,
     index: &mut [u16],
     slots: usize,
-) -> Got
+) -> Option<Made>
     requires { Ready table.old used slots index.old × (leaf < used) }
     ensures { (got_by result table.new ≡ constant_nodes (record { words = table.old; used = used }) leaf) × ReadyGot result table.new slots index.new }
 {
-    let Got::Node {
-        node: stem,
-        used: next,
-    } = index::make(table, used, index, slots, leaf + 1, 0)
-    else {
-        return Got::Full;
-    };
-    index::make(table, next, index, slots, leaf + 1, stem + 1)
+    let stem = index::make(table, used, index, slots, leaf + 1, 0)?;
+    index::make(table, stem.used, index, slots, leaf + 1, stem.node + 1)
 }
 
 // The nodes of Δ(Δp)y: the stem of p, and its fork with y.
@@ -41,18 +34,12 @@ fn make_spread(
     y: usize,
     index: &mut [u16],
     slots: usize,
-) -> Got
+) -> Option<Made>
     requires { Ready table.old used slots index.old × (p < used) × (y < used) }
     ensures { (got_by result table.new ≡ spread_nodes (record { words = table.old; used = used }) p y) × ReadyGot result table.new slots index.new }
 {
-    let Got::Node {
-        node: stem,
-        used: next,
-    } = index::make(table, used, index, slots, p + 1, 0)
-    else {
-        return Got::Full;
-    };
-    index::make(table, next, index, slots, stem + 1, y + 1)
+    let stem = index::make(table, used, index, slots, p + 1, 0)?;
+    index::make(table, stem.used, index, slots, stem.node + 1, y + 1)
 }
 
 // The second branch, Δ(Δf)(KK), after the leaf: KK, then its spread with the rule.
@@ -63,18 +50,12 @@ fn make_rule(
     rule: usize,
     index: &mut [u16],
     slots: usize,
-) -> Got
+) -> Option<Made>
     requires { Ready table.old used slots index.old × (leaf < used) × (rule < used) }
     ensures { (got_by result table.new ≡ rule_nodes (record { words = table.old; used = used }) leaf rule) × ReadyGot result table.new slots index.new }
 {
-    let Got::Node {
-        node: third,
-        used: next,
-    } = make_constant(table, used, leaf, index, slots)
-    else {
-        return Got::Full;
-    };
-    make_spread(table, next, rule, third, index, slots)
+    let third = make_constant(table, used, leaf, index, slots)?;
+    make_spread(table, third.used, rule, third.node, index, slots)
 }
 
 // The whole, Δ(Δ(Kt))y, after the leaf and the second branch y: Kt, then its spread with y.
@@ -86,18 +67,12 @@ fn make_whole(
     y: usize,
     index: &mut [u16],
     slots: usize,
-) -> Got
+) -> Option<Made>
     requires { Ready table.old used slots index.old × (leaf < used) × (label < used) × (y < used) }
     ensures { (got_by result table.new ≡ whole_nodes (record { words = table.old; used = used }) leaf label y) × ReadyGot result table.new slots index.new }
 {
-    let Got::Node {
-        node: sixth,
-        used: next,
-    } = index::make(table, used, index, slots, leaf + 1, label + 1)
-    else {
-        return Got::Full;
-    };
-    make_spread(table, next, sixth, y, index, slots)
+    let sixth = index::make(table, used, index, slots, leaf + 1, label + 1)?;
+    make_spread(table, sixth.used, sixth.node, y, index, slots)
 }
 
 // Label's nodes, in their order. The leaf is a branch of KK and of Kt.
@@ -108,25 +83,15 @@ fn make_nodes(
     label: usize,
     index: &mut [u16],
     slots: usize,
-) -> Got
+) -> Option<Made>
     requires { Ready table.old used slots index.old × (rule < used) × (label < used) }
     ensures { (got_by result table.new ≡ labelling.nodes (record { words = table.old; used = used }) rule label) × ReadyGot result table.new slots index.new }
 {
-    let Got::Node {
-        node: leaf,
-        used: next,
-    } = index::make(table, used, index, slots, 0, 0)
-    else {
-        return Got::Full;
-    };
-    let Got::Node {
-        node: fifth,
-        used: more,
-    } = make_rule(table, next, leaf, rule, index, slots)
-    else {
-        return Got::Full;
-    };
-    make_whole(table, more, leaf, label, fifth, index, slots)
+    let leaf = index::make(table, used, index, slots, 0, 0)?;
+    let fifth = make_rule(table, leaf.used, leaf.node, rule, index, slots)?;
+    make_whole(
+        table, fifth.used, leaf.node, label, fifth.node, index, slots,
+    )
 }
 
 // Labels a rule's node with the tree of another, both in use: 8 while making nodes, or the labelled tree.
@@ -137,7 +102,7 @@ pub fn label_rule(
     label: usize,
     index: &mut [u16],
     slots: usize,
-) -> Made
+) -> Result<Made, Refusal>
     requires { Ready table.old used slots index.old × (rule < used) × (label < used) }
     ensures { (whole result table.new [] ≡ labelling.label_rule table.old used rule label) × ReadyMade result table.new slots index.new }
 {
