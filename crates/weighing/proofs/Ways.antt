@@ -1,26 +1,34 @@
 -- Laws of digits taken highest first, and of the answers, one for each way that the code goes. Assumes nothing.
 use Prim.Native.Nat.{ℕ, zero, suc, ◌+◌, ◌-◌, ◌*◌, ◌≤◌, ◌<◌}
-use mathlib.Core.Path.{◌≡◌, refl, sym, subst, ◌∙◌}
-use mathlib.Core.Bool.{Bool, true, false}
-use mathlib.Core.List.{List, [], ◌∷◌}
-use mathlib.Core.Option.{Option, none, some}
+use mathlib.Core.Path.{◌≡◌, refl, sym, ap, ◌∙◌}
+use mathlib.Core.Bool.{true}
+use mathlib.Core.List.{List, [], ◌∷◌, ◌++◌, reverse}
+use mathlib.Core.Option.{Option as maybe, none, some}
 use native.Mathlib.Omega.{arith}
 use lib.ListN.{length, get_or, drop, drop_of_length-le}
 use borrow.Author.Tests.{lt-ltb, le-ltb}
+use Rattle.std.specs.Prelude.{Option, Some, None, Result, Ok, Err, ok_or}
+use Rattle.std.specs.Ordering.{ordering_then, nat_cmp}
+use Rattle.std.specs.declared.cmp.Ordering.{Ordering}
+use Rattle.std.specs.declared.cmp.Ordering.TheVariants.{Less, Equal, Greater}
+use Rattle.std.specs.Cmp.Lexicographic.{slice_cmp}
+use Rattle.std.specs.Result.{IsErrAnd}
+use Rattle.std.proofs.lemmas.Result.{err_from_is_err_and}
+use Rattle.std.proofs.lemmas.List.{length-reverse, reverse-append}
 use Rattle.table.specs.Nodes.{tree_at}
 use Rattle.table.specs.Branches.{InUse}
 use Rattle.table.specs.Outcome.{at_entry}
+use Rattle.table.specs.declared.Refusal.{Refusal}
 use Rattle.table.specs.declared.Refusal.TheVariants.{Node, Weight}
 use Rattle.table.proofs.Lists.{from_place}
+use Rattle.table.proofs.Words.{zero_one}
 use Rattle.table.proofs.Entry.{entered}
-use Rattle.weights.specs.Digits.{grams_of, digits_of_weight, order_of, decides, compare_digits}
+use Rattle.weights.specs.Digits.{grams_of, digits_of_weight, compare_digits}
 use Rattle.weights.specs.Weights.{weigh, grams, compare_both, compare_weights}
-use Rattle.weights.specs.Claims.{NineDigits}
-use Rattle.weights.specs.declared.Weighed.TheVariants as weighed
-use Rattle.weights.specs.declared.Ordered.{Ordered}
-use Rattle.weights.specs.declared.Ordered.TheVariants as ordered
-use Rattle.weights.proofs.Numbers.{order_less, order_equal, order_greater}
+use Rattle.weights.specs.Claims.{Decimal}
+use Rattle.weights.specs.declared.Digits.{Digits}
 use Rattle.weights.proofs.Weights.{grams_top}
+use Rattle.weights.proofs.Outcomes.{out_of_use}
 use Rattle.weight_digits.specs.Code.{digits_by}
 
 -- the number of the digits from place i on
@@ -30,95 +38,109 @@ grams_most zero l = omega arith
 grams_most (suc i) [] = omega arith
 grams_most (suc i) (d ∷ l) = omega (arith, grams_most i l)
 
-module _ {l : List ℕ} (n : NineDigits l) where
+module _ (l : List ℕ) (n : length l ≡ 9) (d : Decimal l) where
   pub grams_none : 0 ≡ grams_of (drop 9 l)
   unfolding grams_of
-  grams_none = rw (drop_of_length-le l (let k : length l ≤ 9 = omega (arith, n.nine) in k))
+  grams_none = rw (drop_of_length-le l (let k : length l ≤ 9 = omega arith in k))
 
   pub grams_part : (i : ℕ) → grams_of (drop i l) ≤ 999999999
-  grams_part i = omega (arith, grams_most i l, grams_top n)
+  grams_part i = omega (arith, grams_most i l, grams_top (record { nine = n; decimal = d }))
 
   pub grams_from : (i : ℕ) → 0 < i → i ≤ 9 → {t : ℕ} → t ≡ grams_of (drop i l) → t * 10 + get_or l (i - 1) 0 ≡ grams_of (drop (i - 1) l)
   unfolding grams_of
   grams_from i h k e =
       let z : i - 1 + 1 ≡ i = omega arith in
-      rw (e, from_place l (i - 1) 0 (omega (arith, n.nine)), z) (omega arith)
+      rw (e, from_place l (i - 1) 0 (omega arith), z) (omega arith)
 
--- equal digits are equal, and the highest that differs decides
-all_equal : (l : List ℕ) → compare_digits l l ≡ ordered.Equal
-unfolding compare_digits decides
-all_equal [] = refl
-all_equal (x ∷ l) = rw (all_equal l, order_equal (let e : x ≡ x = refl in e))
+-- lists of equal lengths, lowest digit first, are compared as the library compares them from the end
+then_equal : (o : Ordering) → ordering_then o Equal ≡ o
+then_equal Less = refl
+then_equal Equal = refl
+then_equal Greater = refl
 
-decided : (i : ℕ) (xs ys : List ℕ) → i < length xs → i < length ys → drop (suc i) xs ≡ drop (suc i) ys → {o : Ordered} → ((lower : Ordered) → decides o lower ≡ o)
-    → order_of (get_or xs i 0) (get_or ys i 0) ≡ o → compare_digits xs ys ≡ o
-unfolding compare_digits decides
-decided i [] ys h k e n q = absurd (omega arith)
-decided i (x ∷ xs) [] h k e n q = absurd (omega arith)
-decided zero (x ∷ xs) (y ∷ ys) h k e n q = rw (e, all_equal ys) q
-decided (suc i) (x ∷ xs) (y ∷ ys) h k e n q = rw (decided i xs ys (omega arith) (omega arith) e n q) (n (order_of x y))
+then_then : (o p q : Ordering) → ordering_then o (ordering_then p q) ≡ ordering_then (ordering_then o p) q
+then_then Less p q = refl
+then_then Equal p q = refl
+then_then Greater p q = refl
 
--- lists of nine digits that are equal from place i on: the digit before
-module _ {xs ys : List ℕ} (n : NineDigits xs) (m : NineDigits ys) (i : ℕ) (h : 0 < i) (k : i ≤ 9) (e : drop i xs ≡ drop i ys) where
-  at_digit : {o : Ordered} → ((lower : Ordered) → decides o lower ≡ o) → order_of (get_or xs (i - 1) 0) (get_or ys (i - 1) 0) ≡ o → o ≡ compare_digits xs ys
-  at_digit d q =
-      let z : i ≡ suc (i - 1) = omega arith in
-      sym (decided (i - 1) xs ys (omega (arith, n.nine)) (omega (arith, m.nine)) (subst (λ (j : ℕ). drop j xs ≡ drop j ys) z e) d q)
+last_decides : (xs ys : List ℕ) (x y : ℕ) → length xs ≡ length ys → slice_cmp nat_cmp (xs ++ (x ∷ [])) (ys ++ (y ∷ [])) ≡ ordering_then (slice_cmp nat_cmp xs ys) (nat_cmp x y)
+last_decides [] [] x y e = then_equal (nat_cmp x y)
+last_decides [] (b ∷ ys) x y e = absurd (omega arith)
+last_decides (a ∷ xs) [] x y e = absurd (omega arith)
+last_decides (a ∷ xs) (b ∷ ys) x y e = rw (last_decides xs ys x y (omega arith)) (then_then (nat_cmp a b) (slice_cmp nat_cmp xs ys) (nat_cmp x y))
 
-  pub decided_less : get_or xs (i - 1) 0 < get_or ys (i - 1) 0 → ordered.Less ≡ compare_digits xs ys
-  unfolding decides
-  decided_less q = at_digit (λ lower. refl) (order_less q)
+pub from_the_end : (xs ys : List ℕ) → length xs ≡ length ys → slice_cmp nat_cmp (reverse xs) (reverse ys) ≡ compare_digits xs ys
+unfolding compare_digits
+from_the_end [] [] e = refl
+from_the_end [] (y ∷ ys) e = absurd (omega arith)
+from_the_end (x ∷ xs) [] e = absurd (omega arith)
+from_the_end (x ∷ xs) (y ∷ ys) e =
+    rw (
+      reverse-append (x ∷ []) xs,
+      reverse-append (y ∷ []) ys,
+      last_decides (reverse xs) (reverse ys) x y (omega (arith, length-reverse xs, length-reverse ys)),
+      from_the_end xs ys (omega arith),
+    )
 
-  pub decided_greater : get_or ys (i - 1) 0 < get_or xs (i - 1) 0 → ordered.Greater ≡ compare_digits xs ys
-  unfolding decides
-  decided_greater q = at_digit (λ lower. refl) (order_greater q)
+-- what a `?` returns
+pub failed : {A : Type 0} {r : Result A Refusal} {e : Refusal} → IsErrAnd r (λ y. y ≡ e) → r ≡ Err e
+failed {r = r} h = let x = err_from_is_err_and r h in x.1 ∙ ap Err x.2
 
-  pub same_digit : get_or xs (i - 1) 0 ≡ get_or ys (i - 1) 0 → drop (i - 1) xs ≡ drop (i - 1) ys
-  same_digit q =
-      let z : i - 1 + 1 ≡ i = omega arith in
-      rw (from_place xs (i - 1) 0 (omega (arith, n.nine)), from_place ys (i - 1) 0 (omega (arith, m.nine)), z, q, e)
+-- what the digits that are read say of the answer
+pub weigh_none : (r : Option Digits) {e : Refusal} → Err e ≡ ok_or r Weight → Err e ≡ weigh (digits_by r)
+unfolding weigh
+weigh_none None q = ap Err (cc)
+weigh_none (Some d) q = zero_one (cc)
 
-pub no_more_digits : {xs ys : List ℕ} → NineDigits xs → NineDigits ys → drop 9 xs ≡ drop 9 ys
-no_more_digits {xs} {ys} n m =
-    drop_of_length-le xs (let k : length xs ≤ 9 = omega (arith, n.nine) in k) ∙ sym (drop_of_length-le ys (let k : length ys ≤ 9 = omega (arith, m.nine) in k))
+pub weigh_some : (r : Option Digits) {d : Digits} → Ok d ≡ ok_or r Weight → Ok (grams_of d.digits) ≡ weigh (digits_by r)
+unfolding weigh
+weigh_some None q = zero_one (cc)
+weigh_some (Some x) {d} q = let e : d ≡ x = cc in rw e
 
-pub none_differs : {xs ys : List ℕ} → xs ≡ ys → ordered.Equal ≡ compare_digits xs ys
-none_differs {xs} {ys} e = rw e (sym (all_equal ys))
+pub compare_no_first : (r : Option Digits) (o : maybe (List ℕ)) {e : Refusal} → Err e ≡ ok_or r Weight → Err e ≡ compare_both (digits_by r) o
+unfolding compare_both
+compare_no_first None o q = ap Err (cc)
+compare_no_first (Some d) o q = zero_one (cc)
+
+pub compare_no_second : (r s : Option Digits) {d : Digits} {e : Refusal} → Ok d ≡ ok_or r Weight → Err e ≡ ok_or s Weight → Err e ≡ compare_both (digits_by r) (digits_by s)
+unfolding compare_both
+compare_no_second None s p q = zero_one (cc)
+compare_no_second (Some d) None p q = ap Err (cc)
+compare_no_second (Some d) (Some x) p q = zero_one (cc)
+
+pub compare_some : (r s : Option Digits) {d x : Digits} → Ok d ≡ ok_or r Weight → Ok x ≡ ok_or s Weight → Ok (compare_digits d.digits x.digits) ≡ compare_both (digits_by r) (digits_by s)
+unfolding compare_both
+compare_some None s p q = zero_one (cc)
+compare_some (Some y) None p q = zero_one (cc)
+compare_some (Some y) (Some z) {d} {x} p q = let e : d ≡ y = cc in let f : x ≡ z = cc in rw (e, f)
 
 -- where neither 1 nor 2 is met
 pub entered_in : {w : List ℕ} {u v : ℕ} → at_entry true w u [] ≡ none → v < u → InUse w v
 entered_in {w} {u} q h = record { used = u; fine = (entered true w u [] q).table; inside = h }
 
--- what the digits of a node say
-pub told_none : {z : Bool} (l : List ℕ) {o : Option (List ℕ)} → z ≡ false → digits_by z l ≡ o → o ≡ none
-unfolding digits_by
-told_none l e q = sym q ∙ rw e
-
-pub told_some : {z : Bool} {l : List ℕ} {o : Option (List ℕ)} → z ≡ true → digits_by z l ≡ o → o ≡ some l
-unfolding digits_by
-told_some e q = sym q ∙ rw e
-
-module _ (w : List ℕ) (u : ℕ) (q : at_entry true w u [] ≡ none) where
-  pub grams_no_node : {v : ℕ} → u ≤ v → weighed.Refused Node ≡ grams w u v
+module _ (w : List ℕ) (u : ℕ) where
+  pub grams_refused : (v : ℕ) {e : Refusal} → some e ≡ at_entry true w u [] → Err e ≡ grams w u v
   unfolding grams
-  grams_no_node {v} h = rw (q, le-ltb v u h)
+  grams_refused v q = rw (← q)
 
-  pub grams_in : {v : ℕ} → v < u → {o : Option (List ℕ)} → digits_of_weight (tree_at w v) ≡ o → weigh o ≡ grams w u v
-  unfolding grams
-  grams_in {v} h e = rw (q, lt-ltb v u h, e)
-
-  pub compare_no_first : {a : ℕ} (b : ℕ) → u ≤ a → ordered.Refused Node ≡ compare_weights w u a b
+  pub compare_refused : (a b : ℕ) {e : Refusal} → some e ≡ at_entry true w u [] → Err e ≡ compare_weights w u a b
   unfolding compare_weights
-  compare_no_first {a} b h = rw (q, le-ltb a u h)
+  compare_refused a b q = rw (← q)
 
-  pub compare_no_second : {a b : ℕ} → a < u → u ≤ b → ordered.Refused Node ≡ compare_weights w u a b
-  unfolding compare_weights
-  compare_no_second {a} {b} h k = rw (q, lt-ltb a u h, le-ltb b u k)
+  module _ (q : none ≡ at_entry true w u []) where
+    pub grams_no_node : {v : ℕ} → u ≤ v → Err Node ≡ grams w u v
+    unfolding grams
+    grams_no_node {v} h = rw (← q, le-ltb v u h)
 
-  pub compare_in : {a b : ℕ} → a < u → b < u → {o p : Option (List ℕ)} → digits_of_weight (tree_at w a) ≡ o → digits_of_weight (tree_at w b) ≡ p → compare_both o p ≡ compare_weights w u a b
-  unfolding compare_weights
-  compare_in {a} {b} h k e f = rw (q, lt-ltb a u h, lt-ltb b u k, e, f)
+    pub grams_in : {v : ℕ} → v < u → {o : maybe (List ℕ)} → (InUse w v → o ≡ digits_of_weight (tree_at w v)) → weigh o ≡ grams w u v
+    unfolding grams
+    grams_in {v} h e = rw (← q, lt-ltb v u h, ← e (entered_in (sym q) h))
 
-pub no_first : (p : Option (List ℕ)) → compare_both none p ≡ ordered.Refused Weight
-unfolding compare_both
-no_first p = refl
+    pub compare_no_node : {a b : ℕ} → (a < u → b < u → ⊥) → Err Node ≡ compare_weights w u a b
+    unfolding compare_weights
+    compare_no_node n = rw (← q, out_of_use n)
+
+    pub compare_in : {a b : ℕ} → a < u → b < u → {o p : maybe (List ℕ)} → (InUse w a → o ≡ digits_of_weight (tree_at w a)) → (InUse w b → p ≡ digits_of_weight (tree_at w b))
+        → compare_both o p ≡ compare_weights w u a b
+    unfolding compare_weights
+    compare_in {a} {b} h k e f = rw (← q, lt-ltb a u h, lt-ltb b u k, ← e (entered_in (sym q) h), ← f (entered_in (sym q) k))

@@ -46,7 +46,7 @@ both x y = go (digits_of_weight x) (digits_of_weight y) refl refl
 
 -- not both node numbers are in use
 module _ {u a b : ℕ} where
-  out_of_use : (a < u → b < u → ⊥) → (ltb a u && ltb b u) ≡ false
+  pub out_of_use : (a < u → b < u → ⊥) → (ltb a u && ltb b u) ≡ false
   out_of_use n = go (ltb a u) (ltb b u) refl refl
     where
       go : (p q : Bool) → ltb a u ≡ p → ltb b u ≡ q → (p && q) ≡ false

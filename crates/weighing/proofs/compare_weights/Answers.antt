@@ -1,54 +1,32 @@
 -- `weighing::compare_weights` meets its contract: 1 and 2, then 3, then 14, then the digits compared. Assumes nothing.
-use mathlib.Core.Path.{◌≡◌, refl, sym, ◌∙◌}
-use mathlib.Core.Bool.{true}
-use mathlib.Core.List.{[]}
-use mathlib.Core.Option.{none}
-use borrow.Author.Tests.{not-true, not-false}
-use Rattle.table.specs.Outcome.{at_entry}
-use Rattle.table.proofs.Entry.{check_refuses}
-use Rattle.weights.specs.Weights as weights
-use Rattle.weights.specs.declared.Ordered.TheVariants.{Refused}
-use Rattle.weighing.proofs.Ways.{entered_in, told_none, told_some, compare_no_first, compare_no_second, compare_in}
+use mathlib.Core.Path.{refl, ap, ◌∙◌}
+use native.Mathlib.Omega.{arith}
+use Rattle.std.specs.Prelude.{Ok}
+use Rattle.weighing.proofs.Ways.{failed, compare_no_first, compare_no_second, compare_some, compare_refused, compare_no_node, compare_in}
 use Rattle.weighing.proofs.compare_weights.Goals as goal
 
-pub returns-in-Refused : goal.returns-in-Refused
-unfolding weights.compare_weights
-returns-in-Refused c = check_refuses Refused _ (rw c.in-Refused.is at c.check-checked.ensures)
+pub returns-in_err-check : goal.returns-in_err-check
+returns-in_err-check c = failed c.from_residual.ensures.1 ∙ compare_refused _ _ _ _ c.in_err-check.ensures
 
 pub returns-then-used-a : goal.returns-then-used-a
-returns-then-used-a c =
-    let passed : let a = c.args in at_entry true a.table.now a.used [] ≡ none = sym (rw c.in_default.is at c.check-checked.ensures) in
-    compare_no_first _ _ (passed) _ c.if-used-a.true
+returns-then-used-a c = compare_no_node _ _ c.in_ok-check.ensures (λ h k. grind arith)
 
-pub returns-then-used-b : goal.returns-then-used-b
-returns-then-used-b c =
-    let passed : let a = c.args in at_entry true a.table.now a.used [] ≡ none = sym (rw c.in_default.is at c.check-checked.ensures) in
-    compare_no_second _ _ (passed) c.if-used-a.false c.if-used-b.true
+pub returns-in_err-first : goal.returns-in_err-first
+returns-in_err-first c =
+    let r = c.read_digits in
+    failed c.from_residual-in_err-first.ensures.1 ∙ compare_no_first r.result _ c.in_err-first.ensures.value
+    ∙ compare_in _ _ c.in_ok-check.ensures c.if-used-a.false c.if-used-b.false r.ensures (λ i. refl)
 
-pub returns-then-not-first : goal.returns-then-not-first
-unfolding weights.compare_both
-returns-then-not-first c =
-    let passed : let a = c.args in at_entry true a.table.now a.used [] ≡ none = sym (rw c.in_default.is at c.check-checked.ensures) in
-    let q = passed in
-    compare_in _ _ q c.if-used-a.false c.if-used-b.false (told_none _ (not-true _ c.if-not-first.true) (c.read_digits-first.ensures.1 (entered_in q c.if-used-a.false))) refl
-
-pub returns-then-not-second : goal.returns-then-not-second
-unfolding weights.compare_both
-returns-then-not-second c =
-    let passed : let a = c.args in at_entry true a.table.now a.used [] ≡ none = sym (rw c.in_default.is at c.check-checked.ensures) in
-    let q = passed in
-    compare_in _ _ q c.if-used-a.false c.if-used-b.false (told_some (not-false _ c.if-not-first.false) (c.read_digits-first.ensures.1 (entered_in q c.if-used-a.false)))
-    (told_none _ (not-true _ c.if-not-second.true) (c.read_digits-second.ensures.1 (entered_in q c.if-used-b.false)))
-
-pub compare_digits-requires : goal.compare_digits-requires
-compare_digits-requires c =
-    (c.read_digits-first.ensures.0 (not-false _ c.if-not-first.false), c.read_digits-second.ensures.0 (not-false _ c.if-not-second.false))
+pub returns-in_err-second : goal.returns-in_err-second
+returns-in_err-second c =
+    let r = c.read_digits in
+    let s = c.read_digits-2 in
+    failed c.from_residual-in_err-second.ensures.1 ∙ compare_no_second r.result s.result c.in_ok-first.ensures.value c.in_err-second.ensures.value
+    ∙ compare_in _ _ c.in_ok-check.ensures c.if-used-a.false c.if-used-b.false r.ensures s.ensures
 
 pub returns : goal.returns
-unfolding weights.compare_both
 returns c =
-    let passed : let a = c.args in at_entry true a.table.now a.used [] ≡ none = sym (rw c.in_default.is at c.check-checked.ensures) in
-    let q = passed in
-    c.compare_digits.ensures
-    ∙ compare_in _ _ q c.if-used-a.false c.if-used-b.false (told_some (not-false _ c.if-not-first.false) (c.read_digits-first.ensures.1 (entered_in q c.if-used-a.false)))
-    (told_some (not-false _ c.if-not-second.false) (c.read_digits-second.ensures.1 (entered_in q c.if-used-b.false)))
+    let r = c.read_digits in
+    let s = c.read_digits-2 in
+    ap Ok c.compare_digits.ensures ∙ compare_some r.result s.result c.in_ok-first.ensures.value c.in_ok-second.ensures.value
+    ∙ compare_in _ _ c.in_ok-check.ensures c.if-used-a.false c.if-used-b.false r.ensures s.ensures
