@@ -2,12 +2,13 @@
 use Prim.Native.Nat.{ℕ, zero, suc, ◌+◌, ◌-◌, ◌*◌, ◌≤◌, ◌<◌}
 use mathlib.Core.Path.{◌≡◌, refl, sym, ap, ◌∙◌}
 use mathlib.Core.Bool.{Bool, true, false, cond}
-use mathlib.Core.List.{List, [], ◌∷◌}
+use mathlib.Core.List.{List, [], ◌∷◌, ◌++◌, append_assoc, append-nil}
 use mathlib.Core.Option.{Option, none, some}
 use native.Mathlib.Omega.{arith}
-use lib.ListN.{length, get_or, set, take, drop, take-append-drop, length-set}
-use lib.Seq.{get_or-set_same, get_or-set_other, drop-cons, drop-length}
+use lib.ListN.{length, get_or, set, take, drop, take-append-drop, length-set, length-append}
+use lib.Seq.{get_or-set_same, get_or-set_other, drop-length, drop-append_seam}
 use lib.Dec.{eqb}
+use Rattle.std.specs.List.{push}
 use borrow.Author.Tests.{eqb-true, eq-eqb, ne_eqb}
 use Rattle.calculus.specs.Tree.{Tree}
 use Rattle.table.specs.Nodes.{Table, Making, capacity, make}
@@ -20,8 +21,9 @@ use Rattle.ternary.proofs.OneText.{whole_pending}
 use Rattle.ternary.proofs.Laying.{full_digits, digits_trees}
 use Rattle.index.specs.Index.{Ready}
 use Rattle.index.specs.Code.{got_by, ReadyGot}
-use Rattle.index.specs.declared.Got.{Got}
-use Rattle.index.specs.declared.Got.TheVariants.{Node, Full}
+use Rattle.std.specs.Prelude as code
+use Rattle.std.specs.Prelude.{Some, None}
+use Rattle.table.specs.declared.Made.{Made}
 use Rattle.index.proofs.Ready.{node_ready}
 use Rattle.reader.specs.Code.{nodes_in, TakesDigit, LaysText}
 
@@ -140,9 +142,14 @@ takes c ts {us} = go (eqb c 48) (eqb c 49) (eqb c 50) refl refl refl
     go false false true p q r e = takes_fork c (eqb-true c 50 r) ts e
     go false false false p q r e = zero_one (cc)
 
--- the digits from index i - 1 on, and those after it
-drop_more : (l : List ℕ) (i : ℕ) → 0 < i → i ≤ length l → drop (i - 1) l ≡ get_or l (i - 1) 0 ∷ drop i l
-drop_more l i h k = let q : suc (i - 1) ≡ i = omega arith in drop-cons l (i - 1) 0 (omega arith) ∙ rw q
+-- the digits not taken yet, whose last is c, and those after them
+pub front_less : (l f r : List ℕ) (c : ℕ) → f ++ drop (length f) l ≡ l → f ≡ push r c
+    → (length f ≡ suc (length r)) × (drop (length r) l ≡ c ∷ drop (length f) l) × (r ++ drop (length r) l ≡ l)
+front_less l f r c e q =
+    let n : length f ≡ suc (length r) = omega (arith, ap length q, length-append r (c ∷ [])) in
+    let m : r ++ (c ∷ drop (length f) l) ≡ l = sym (append_assoc r (c ∷ []) (drop (length f) l)) ∙ ap (λ (y : List ℕ). y ++ drop (length f) l) (sym q) ∙ e in
+    let d : drop (length r) l ≡ c ∷ drop (length f) l = ap (drop (length r)) (sym m) ∙ drop-append_seam r (c ∷ drop (length f) l) in
+    (n, d, ap (λ (y : List ℕ). r ++ y) d ∙ m)
 
 -- what is no tree from some digit on is none
 pending_none : (l : List ℕ) (i : ℕ) → i ≤ length l → pending (drop i l) ≡ none → pending l ≡ none
@@ -181,9 +188,15 @@ pub record LaidTo (t : Table) (l s₀ ix₀ : List ℕ) (slots i : ℕ) (w : Lis
   pub same_index : length ix ≡ length ix₀
 
 module _ {w₀ : List ℕ} {u₀ slots : ℕ} {ix₀ s₀ l : List ℕ} where
-  pub laid_none : Ready w₀ u₀ slots ix₀ → LaidTo (record { words = w₀; used = u₀ }) l s₀ ix₀ slots (length l) w₀ u₀ s₀ 0 ix₀
+  -- no digit is taken
+  pub laid_none : Ready w₀ u₀ slots ix₀ → {f : List ℕ} → f ≡ l
+      → (f ++ drop (length f) l ≡ l) × LaidTo (record { words = w₀; used = u₀ }) l s₀ ix₀ slots (length f) w₀ u₀ s₀ 0 ix₀
   unfolding lay_digits nodes_in
-  laid_none r = record { inside = omega arith; laid = rw (drop-length l); ready = r; same_words = refl; same_stack = refl; same_index = refl }
+  laid_none r e =
+      rw e (
+        ap (λ (d : List ℕ). l ++ d) (drop-length l) ∙ append-nil l,
+        record { inside = omega arith; laid = rw (drop-length l); ready = r; same_words = refl; same_stack = refl; same_index = refl },
+      )
 
   module _ (r : Ready w₀ u₀ slots ix₀) (y : LaysText s₀ l) {i : ℕ} {w : List ℕ} {u : ℕ} {s : List ℕ} {held : ℕ} {ix : List ℕ}
       (x : LaidTo (record { words = w₀; used = u₀ }) l s₀ ix₀ slots i w u s held ix) where
@@ -203,15 +216,15 @@ module _ {w₀ : List ℕ} {u₀ slots : ℕ} {ix₀ s₀ l : List ℕ} where
     held_frames = omega (arith, y.frames_free, x.same_stack, many, pending_most l i trees.1.0)
 
     -- the next digit
-    module _ (h : 0 < i) where
-      next_trees : (us : List Tree) × (pending (drop (i - 1) l) ≡ some us)
-      next_trees = pending_drop l (i - 1) (omega (arith, x.inside)) (whole_pending l y.tree_is)
+    module _ {j c : ℕ} (h : i ≡ suc j) (b : drop j l ≡ c ∷ drop i l) where
+      next_trees : (us : List Tree) × (pending (drop j l) ≡ some us)
+      next_trees = pending_drop l j (omega (arith, x.inside)) (whole_pending l y.tree_is)
 
-      next_takes : Takes (get_or l (i - 1) 0) trees.0 next_trees.0
+      next_takes : Takes c trees.0 next_trees.0
       unfolding pending
-      next_takes = takes (get_or l (i - 1) 0) trees.0 (rw (← trees.1.0) (ap pending (sym (drop_more l i h x.inside)) ∙ next_trees.1))
+      next_takes = takes c trees.0 (rw (← trees.1.0) (ap pending (sym b) ∙ next_trees.1))
 
-      pub takes_digit : TakesDigit u s held (get_or l (i - 1) 0)
+      pub takes_digit : TakesDigit u s held c
       takes_digit =
           record {
             from_leaf = next_takes.from_leaf;
@@ -222,46 +235,46 @@ module _ {w₀ : List ℕ} {u₀ slots : ℕ} {ix₀ s₀ l : List ℕ} where
           }
 
       -- its frame
-      pub digit_frame : (held - (get_or l (i - 1) 0 - 48)) * 3 < length s
-      digit_frame = omega (arith, y.frames_free, x.same_stack, many, next_takes.leaves, pending_most l (i - 1) next_trees.1)
+      pub digit_frame : (held - (c - 48)) * 3 < length s
+      digit_frame = omega (arith, y.frames_free, x.same_stack, many, next_takes.leaves, pending_most l j next_trees.1)
 
       -- what its node leaves pending
-      module _ (g : Got) (w' ix' : List ℕ)
-          (e : keep (nodes_in s (held - (get_or l (i - 1) 0 - 48))) (got_by g w') ≡ lay_digit (get_or l (i - 1) 0) (awaits (record { words = w; used = u }) (nodes_in s held)))
+      module _ (g : code.Option Made) (w' ix' : List ℕ)
+          (e : keep (nodes_in s (held - (c - 48))) (got_by g w') ≡ lay_digit c (awaits (record { words = w; used = u }) (nodes_in s held)))
           (f : ReadyGot g w' slots ix') where
-        next_laid : lay_digits t₀ (drop (i - 1) l) ≡ keep (nodes_in s (held - (get_or l (i - 1) 0 - 48))) (got_by g w')
+        next_laid : lay_digits t₀ (drop j l) ≡ keep (nodes_in s (held - (c - 48))) (got_by g w')
         unfolding lay_digits t₀
-        next_laid = ap (lay_digits t₀) (drop_more l i h x.inside) ∙ ap (lay_digit (get_or l (i - 1) 0)) x.laid ∙ sym e
+        next_laid = ap (lay_digits t₀) b ∙ ap (lay_digit c) x.laid ∙ sym e
 
-        pub none_laid : g ≡ Full → (keep [] (got_by Full w') ≡ lay_digits (record { words = w₀; used = u₀ }) l) × ReadyGot Full w' slots ix'
+        pub none_laid : g ≡ None → (keep [] (got_by None w') ≡ lay_digits (record { words = w₀; used = u₀ }) l) × ReadyGot None w' slots ix'
         unfolding keep got_by ReadyGot t₀
         none_laid q =
-            let p : lay_digits t₀ (drop (i - 1) l) ≡ no_place (record { words = w'; used = capacity w' }) = next_laid ∙ rw q in
-            (sym (ap (lay_digits t₀) (sym (take-append-drop (i - 1) l)) ∙ full_digits t₀ (take (i - 1) l) (drop (i - 1) l) p), tt)
+            let p : lay_digits t₀ (drop j l) ≡ no_place (record { words = w'; used = capacity w' }) = next_laid ∙ rw q in
+            (sym (ap (lay_digits t₀) (sym (take-append-drop j l)) ∙ full_digits t₀ (take j l) (drop j l) p), tt)
 
-        module _ {n u' : ℕ} (q : g ≡ Node n u') where
-          node_laid : lay_digits t₀ (drop (i - 1) l) ≡ awaits (record { words = w'; used = u' }) (n ∷ nodes_in s (held - (get_or l (i - 1) 0 - 48)))
+        module _ {m : Made} (q : g ≡ Some m) where
+          node_laid : lay_digits t₀ (drop j l) ≡ awaits (record { words = w'; used = m.used }) (m.node ∷ nodes_in s (held - (c - 48)))
           unfolding keep got_by
           node_laid = next_laid ∙ rw q
 
-          pub node_small : n < 4294967296
+          pub node_small : m.node < 4294967296
           unfolding t₀
           node_small =
               let k = node_ready f q in
-              let a = digits_trees r.fine (drop (i - 1) l) node_laid in
+              let a = digits_trees r.fine (drop j l) node_laid in
               omega (arith, first_inside a.1.1.trees, k.fine.within, k.fine.short)
 
           pub laid_next : length w' ≡ length w → length ix' ≡ length ix
-              → LaidTo (record { words = w₀; used = u₀ }) l s₀ ix₀ slots (i - 1) w' u' (set s ((held - (get_or l (i - 1) 0 - 48)) * 3) n) (held - (get_or l (i - 1) 0 - 48) + 1) ix'
+              → LaidTo (record { words = w₀; used = u₀ }) l s₀ ix₀ slots j w' m.used (set s ((held - (c - 48)) * 3) m.node) (held - (c - 48) + 1) ix'
           unfolding t₀
-          laid_next a b =
+          laid_next a d =
               record {
                 inside = omega (arith, x.inside);
-                laid = node_laid ∙ ap (awaits (record { words = w'; used = u' })) (sym (nodes_more s (held - (get_or l (i - 1) 0 - 48)) n digit_frame));
+                laid = node_laid ∙ ap (awaits (record { words = w'; used = m.used })) (sym (nodes_more s (held - (c - 48)) m.node digit_frame));
                 ready = node_ready f q;
                 same_words = a ∙ x.same_words;
-                same_stack = length-set s _ n ∙ x.same_stack;
-                same_index = b ∙ x.same_index;
+                same_stack = length-set s _ m.node ∙ x.same_stack;
+                same_index = d ∙ x.same_index;
               }
 
     -- all digits are taken: one node is pending
@@ -276,7 +289,7 @@ module _ {w₀ : List ℕ} {u₀ slots : ℕ} {ix₀ s₀ l : List ℕ} where
       pub one_frame : 0 < length s
       one_frame = omega (arith, one_held, held_frames)
 
-      pub all_laid : {v : ℕ} → v ≡ get_or s 0 0 → (keep [] (got_by (Node v u) w) ≡ lay_digits (record { words = w₀; used = u₀ }) l) × ReadyGot (Node v u) w slots ix
+      pub all_laid : {v : ℕ} → v ≡ get_or s 0 0 → (keep [] (got_by (Some (record { node = v; used = u })) w) ≡ lay_digits (record { words = w₀; used = u₀ }) l) × ReadyGot (Some (record { node = v; used = u })) w slots ix
       unfolding keep got_by ReadyGot nodes_in
       all_laid e =
           let q : i ≡ 0 = omega arith in

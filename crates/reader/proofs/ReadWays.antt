@@ -1,7 +1,7 @@
 -- Laws of Read's outcome and of the test of a text, one for each way that their code goes. Assumes nothing.
 use Prim.Native.Nat.{ℕ, ◌≤◌, ◌<◌}
 use mathlib.Core.Path.{◌≡◌, ap, ◌∙◌}
-use mathlib.Core.Bool.{true, false}
+use mathlib.Core.Bool.{false}
 use mathlib.Core.List.{List, []}
 use native.Mathlib.Omega.{arith}
 use lib.ListN.{length}
@@ -12,18 +12,16 @@ use Rattle.table.specs.Outcome.{whole, placed, stopped, settled, laid, laid_with
 use Rattle.table.specs.declared.Refusal.{Refusal}
 use Rattle.table.specs.declared.Refusal.TheVariants.{Text}
 use Rattle.table.specs.declared.Made.{Made}
-use Rattle.table.specs.declared.Made.TheVariants.{Refused}
-use Rattle.checks.specs.declared.Checked.{Checked}
-use Rattle.checks.specs.declared.Checked.TheVariants as checked
 use Rattle.checks.specs.Code.{checked_with, frames_for}
 use Rattle.checks.proofs.Room.{has_room, refused_within, laid_within_lem}
 use Rattle.ternary.specs.Laying.{keep, lay_digits}
 use Rattle.ternary.specs.Read.{readable, is_some, read_tree}
 use Rattle.ternary.proofs.Laying.{digits_whole}
 use Rattle.index.specs.Code.{got_by, ReadyGot, ReadyMade}
-use Rattle.index.specs.declared.Got.{Got}
+use Rattle.table.specs.Refusal.{not_made}
 use Rattle.index.proofs.Ready.{settled_ready}
-use Rattle.whole_text.specs.declared.Scanned.TheVariants.{Whole, Broken}
+use Rattle.std.specs.Prelude.{Option, Some, None, Result, Ok, Err, ⊤, ok_or}
+use Rattle.std.specs.Prelude as prelude
 use Rattle.whole_text.specs.Code.{ScanSays}
 use Rattle.reader.specs.Code.{LaysText}
 
@@ -34,17 +32,17 @@ settled_same u y s (got m) e = rw e
 settled_same u y s (full t) e = rw e
 
 module _ (w : List ℕ) (u : ℕ) (s l : List ℕ) (slots : ℕ) (ix : List ℕ) where
-  pub too_long : 65535 < length l → (whole (Refused Text) w s ≡ read_tree w u s l (readable l)) × ReadyMade (Refused Text) w slots ix
+  pub too_long : 65535 < length l → (whole (not_made Text) w s ≡ read_tree w u s l (readable l)) × ReadyMade (not_made Text) w slots ix
   unfolding readable read_tree ReadyMade
   too_long h = (rw (lt-leb (length l) 65535 h), tt)
 
   module _ (h : length l ≤ 65535) where
-    pub no_tree : ScanSays l Broken → (whole (Refused Text) w s ≡ read_tree w u s l (readable l)) × ReadyMade (Refused Text) w slots ix
+    pub no_tree : ScanSays l None → (whole (not_made Text) w s ≡ read_tree w u s l (readable l)) × ReadyMade (not_made Text) w slots ix
     unfolding readable read_tree ReadyMade ScanSays
     no_tree e = (rw (le-leb (length l) 65535 h, e), tt)
 
     -- a whole text
-    module _ (m : ℕ) (q : ScanSays l (Whole m)) where
+    module _ (m : ℕ) (q : ScanSays l (Some m)) where
       tree : Tree
       unfolding ScanSays
       tree = q.0
@@ -54,19 +52,19 @@ module _ (w : List ℕ) (u : ℕ) (s l : List ℕ) (slots : ℕ) (ix : List ℕ)
       is_tree = ap (λ (n : ℕ). laid_within w u s n tree) q.2 ∙ rw (le-leb (length l) 65535 h, q.1)
 
       -- what the check for frames said, and the stack that it left
-      module _ {r : Checked} {z : List ℕ} (e : checked_with r z ≡ frames_for s m) where
-        pub no_frames : {c : Refusal} → r ≡ checked.Refused c → (whole (Refused c) w z ≡ read_tree w u s l (readable l)) × ReadyMade (Refused c) w slots ix
+      module _ {r : Result ⊤ Refusal} {z : List ℕ} (e : checked_with r z ≡ frames_for s m) where
+        pub no_frames : {c : Refusal} → r ≡ Err c → (whole (not_made c) w z ≡ read_tree w u s l (readable l)) × ReadyMade (not_made c) w slots ix
         unfolding ReadyMade
         no_frames p = (refused_within s m e w u tree p ∙ is_tree, tt)
 
-        module _ (p : r ≡ checked.Passed) where
+        module _ (p : r ≡ Ok tt) where
           pub lays_text : LaysText z l
           unfolding ScanSays
           lays_text = let n = has_room s m e p in record { tree = q.0; tree_is = q.1; frames_free = rw n.same (omega (arith, q.2, n.frames_free)) }
 
           -- what the digits came to, and what was settled with the stack that they left
-          pub is_laid : (g : Got) (w' y : List ℕ) → keep [] (got_by g w') ≡ lay_digits (record { words = w; used = u }) l → ReadyGot g w' slots ix → length y ≡ length z
-              → {a : Made} {w'' s'' : List ℕ} → whole a w'' s'' ≡ settled u y (got_by g w') → (whole a w'' s'' ≡ read_tree w u s l (readable l)) × ReadyMade a w'' slots ix
+          pub is_laid : (g : Option Made) (w' y : List ℕ) → keep [] (got_by g w') ≡ lay_digits (record { words = w; used = u }) l → ReadyGot g w' slots ix → length y ≡ length z
+              → {a : Result Made Refusal} {w'' s'' : List ℕ} → whole a w'' s'' ≡ settled u y (got_by g w') → (whole a w'' s'' ≡ read_tree w u s l (readable l)) × ReadyMade a w'' slots ix
           unfolding laid ScanSays tree
           is_laid g w' y d f k t =
               let n = has_room s m e p in (
@@ -83,10 +81,7 @@ module _ (l : List ℕ) where
   test_long h = rw (lt-leb (length l) 65535 h)
 
   module _ (h : length l ≤ 65535) where
-    pub test_broken : ScanSays l Broken → false ≡ is_some (readable l)
+    pub test_scanned : (o : Option ℕ) → ScanSays l o → prelude.is_some o ≡ is_some (readable l)
     unfolding readable is_some ScanSays
-    test_broken e = rw (le-leb (length l) 65535 h, e)
-
-    pub test_whole : (m : ℕ) → ScanSays l (Whole m) → true ≡ is_some (readable l)
-    unfolding readable is_some ScanSays
-    test_whole m q = rw (le-leb (length l) 65535 h, q.1)
+    test_scanned None e = rw (le-leb (length l) 65535 h, e)
+    test_scanned (Some m) q = rw (le-leb (length l) 65535 h, q.1)

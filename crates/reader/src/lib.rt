@@ -11,23 +11,14 @@ ghost use Rattle.index.specs.Index.{Ready};
 ghost use Rattle.index.specs.Code.{got_by, ReadyGot, ReadyMade};
 ghost use Rattle.reader.specs.Code.{nodes_in, TakesDigit, LaysText};
 
-use checks::Checked;
-use index::Got;
 use table::{Made, Refusal};
-use whole_text::Scanned;
 
 // Whether a text is one that Read takes.
 pub fn is_text(text: &[u8]) -> bool
     ensures { result ≡ is_some (readable text.now) }
 {
     let n = text.len();
-    if 65535 < n {
-        return false;
-    }
-    let Scanned::Whole(_) = whole_text::scan(text) else {
-        return false;
-    };
-    true
+    n <= 65535 && whole_text::scan(text).is_some()
 }
 
 // The node of the digit c, whose branches are the last of the nodes pending, each in a frame.
@@ -39,20 +30,23 @@ fn lay_digit(
     c: u8,
     index: &mut [u16],
     slots: usize,
-) -> Got
+) -> Option<Made>
     requires { Ready table.old used slots index.old × TakesDigit used stack.now held c }
     ensures { (keep (nodes_in stack.now (held - (c - 48))) (got_by result table.new)
         ≡ lay_digit c (awaits (record { words = table.old; used = used }) (nodes_in stack.now held))) × ReadyGot result table.new slots index.new }
 {
-    if c == 48 {
-        return index::make(table, used, index, slots, 0, 0);
+    match c {
+        48 => index::make(table, used, index, slots, 0, 0),
+        49 => {
+            let p = nodes::word(stack, (held - 1) * 3) + 1;
+            index::make(table, used, index, slots, p, 0)
+        }
+        _ => {
+            let p = nodes::word(stack, (held - 1) * 3) + 1;
+            let q = nodes::word(stack, (held - 2) * 3) + 1;
+            index::make(table, used, index, slots, p, q)
+        }
     }
-    let p = nodes::word(stack, (held - 1) * 3) + 1;
-    if c == 49 {
-        return index::make(table, used, index, slots, p, 0);
-    }
-    let q = nodes::word(stack, (held - 2) * 3) + 1;
-    index::make(table, used, index, slots, p, q)
 }
 
 // Lays the tree of a whole text, digits last to first, up to one whose node has no place.
@@ -63,31 +57,24 @@ fn lay_text(
     text: &[u8],
     index: &mut [u16],
     slots: usize,
-) -> Got
+) -> Option<Made>
     requires { Ready table.old used slots index.old × LaysText stack.old text.now }
     ensures { (keep [] (got_by result table.new) ≡ lay_digits (record { words = table.old; used = used }) text.now)
         × ReadyGot result table.new slots index.new }
 {
-    let mut i = text.len();
     let mut used_now = used;
     let mut held = 0;
-    while 0 < i {
-        let k = i - 1;
-        let c = text[k];
-        let got = lay_digit(table, used_now, stack, held, c, index, slots);
-        let Got::Node { node, used: count } = got else {
-            return Got::Full;
-        };
-        let at = held - (c as usize - 48);
-        stack[at * 3] = node as u32;
-        used_now = count;
-        held = at + 1;
-        i = k;
+    for &c in text.iter().rev() {
+        let made = lay_digit(table, used_now, stack, held, c, index, slots)?;
+        used_now = made.used;
+        held -= c as usize - 48;
+        stack[held * 3] = made.node as u32;
+        held += 1;
     }
-    Got::Node {
+    Some(Made {
         node: nodes::word(stack, 0),
         used: used_now,
-    }
+    })
 }
 
 // Reads a text into a table that passed 1 and 2: 4, then 9, then its nodes with 8.
@@ -98,21 +85,16 @@ pub fn read_text(
     text: &[u8],
     index: &mut [u16],
     slots: usize,
-) -> Made
+) -> Result<Made, Refusal>
     requires { Ready table.old used slots index.old }
     ensures { (whole result table.new stack.new ≡ read_tree table.old used stack.old text.now (readable text.now))
         × ReadyMade result table.new slots index.new }
 {
     if 65535 < text.len() {
-        return Made::Refused(Refusal::Text);
+        return Err(Refusal::Text);
     }
-    let Scanned::Whole(most) = whole_text::scan(text) else {
-        return Made::Refused(Refusal::Text);
-    };
-    let checked = checks::check_frames(stack, most);
-    if let Checked::Refused(e) = checked {
-        return Made::Refused(e);
-    }
+    let most = whole_text::scan(text).ok_or(Refusal::Text)?;
+    checks::check_frames(stack, most)?;
     let got = lay_text(table, used, stack, text, index, slots);
     index::settle(table, used, stack, got)
 }

@@ -1,12 +1,10 @@
 -- `reader::is_text` meets its contract: it says whether there is one whole tree. Assumes nothing.
-use Rattle.reader.proofs.ReadWays.{test_long, test_broken, test_whole}
+use borrow.Author.Tests.{lt-leb}
+use Rattle.reader.proofs.ReadWays.{test_long, test_scanned}
 use Rattle.reader.proofs.is_text.Goals as goal
 
-pub returns-then-n-gt65535 : goal.returns-then-n-gt65535
-returns-then-n-gt65535 c = test_long c.args.text.now c.if-n-gt65535.true
+pub returns-then-n-le65535 : goal.returns-then-n-le65535
+returns-then-n-le65535 c = rw c.is_some.ensures (test_scanned c.args.text.now c.if-n-le65535.true _ c.scan.ensures)
 
-pub returns-in_default : goal.returns-in_default
-returns-in_default c = test_broken c.args.text.now c.if-n-gt65535.false (rw c.in_default.is at c.scan.ensures)
-
-pub returns : goal.returns
-returns c = test_whole c.args.text.now c.if-n-gt65535.false _ (rw c.in-Whole.is at c.scan.ensures)
+pub returns-else-n-le65535 : goal.returns-else-n-le65535
+returns-else-n-le65535 c = rw (lt-leb _ 65535 c.if-n-le65535.false) (test_long c.args.text.now c.if-n-le65535.false)

@@ -1,30 +1,26 @@
 -- `reader::lay_digit` meets its contract: the node that the digit wants, by its three cases. Assumes nothing.
+use native.Mathlib.Omega.{arith}
 use Rattle.reader.proofs.Laying.{leaf_wanted, stem_wanted, fork_wanted, stem_wants, fork_wants}
 use Rattle.reader.proofs.lay_digit.Goals as goal
 
-pub returns-then-c-eq48 : goal.returns-then-c-eq48
-returns-then-c-eq48 c =
+pub returns-in-48 : goal.returns-in-48
+returns-in-48 c =
     let m = c.make.ensures in
-    (leaf_wanted _ _ _ _ c.if-c-eq48.true m.0, m.1)
+    (leaf_wanted _ _ _ _ (omega arith) m.0, m.1)
 
-pub make-requires-then-c-eq49 : goal.make-requires-then-c-eq49
-make-requires-then-c-eq49 c =
-    let k = c.requires in
-    (k.0, stem_wants k.1 c.if-c-eq48.false c.word-p.ensures.0)
+pub make-requires-in-49 : goal.make-requires-in-49
+make-requires-in-49 c = (c.requires.0, stem_wants c.requires.1 (λ e. omega arith) c.word-p.ensures.0)
 
-pub returns-then-c-eq49 : goal.returns-then-c-eq49
-returns-then-c-eq49 c =
-    let k = c.requires in
-    let m = c.make-then-c-eq49.ensures in
-    (stem_wanted _ _ _ _ c.if-c-eq48.false c.if-c-eq49.true k.1.branches c.word-p.ensures.0 m.0, m.1)
+pub returns-in-49 : goal.returns-in-49
+returns-in-49 c =
+    let m = c.make-in-49.ensures in
+    (stem_wanted _ _ _ _ (λ e. omega arith) (omega arith) c.requires.1.branches c.word-p.ensures.0 m.0, m.1)
 
-pub make-requires-2 : goal.make-requires-2
-make-requires-2 c =
-    let k = c.requires in
-    (k.0, fork_wants k.1 c.if-c-eq48.false c.if-c-eq49.false c.word-p.ensures.0 c.word-q.ensures.0)
+pub make-requires-in_default : goal.make-requires-in_default
+make-requires-in_default c =
+    (c.requires.0, fork_wants c.requires.1 (λ e. omega arith) (λ e. omega arith) c.word-p-in_default.ensures.0 c.word-q.ensures.0)
 
-pub returns : goal.returns
-returns c =
-    let k = c.requires in
-    let m = c.make-2.ensures in
-    (fork_wanted _ _ _ _ c.if-c-eq48.false c.if-c-eq49.false k.1 c.word-p.ensures.0 c.word-q.ensures.0 m.0, m.1)
+pub returns-in_default : goal.returns-in_default
+returns-in_default c =
+    let m = c.make-in_default.ensures in
+    (fork_wanted _ _ _ _ (λ e. omega arith) (λ e. omega arith) c.requires.1 c.word-p-in_default.ensures.0 c.word-q.ensures.0 m.0, m.1)

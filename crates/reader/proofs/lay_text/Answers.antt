@@ -1,74 +1,67 @@
--- `reader::lay_text` meets its contract. The loop's invariant: the digits from i on are taken. Assumes nothing.
-use mathlib.Core.Path.{◌∙◌}
+-- `reader::lay_text` meets its contract. The loop's invariant: the digits that are left are a beginning of the text, and those after it are taken.
+-- Assumes nothing.
+use Prim.Native.Nat.{◌-◌, ◌*◌, ◌<◌}
+use lib.ListN.{length}
 use native.Mathlib.Omega.{arith}
-use Rattle.reader.proofs.Laying.{laid_none, takes_digit, digit_frame, none_laid, node_small, laid_next, one_frame, all_laid}
+use Rattle.reader.specs.Code.{TakesDigit}
+use Rattle.reader.proofs.Laying.{laid_none, front_less, takes_digit, digit_frame, none_laid, node_small, laid_next, one_frame, all_laid}
 use Rattle.reader.proofs.lay_text.Goals as goal
+use Rattle.reader.proofs.lay_text.Goals.{In-Some}
 
-pub loop-i-init : goal.loop-i-init
-loop-i-init c = laid_none c.requires.0
+-- the next digit has its branches, and its node a frame
+taken : (c : In-Some) → TakesDigit c.loop-c.used_now c.loop-c.stack c.loop-c.held c.in-Some.field-0.now
+taken c =
+    let f = front_less _ _ _ _ c.loop-c.invariant.0 c.in-Some.ensures.steps in
+    takes_digit c.requires.0 c.requires.1 c.loop-c.invariant.1 f.0 f.1
 
-pub overflow_sub-k : goal.overflow_sub-k
-overflow_sub-k c = omega arith
+framed : (c : In-Some) → (c.loop-c.held - (c.in-Some.field-0.now - 48)) * 3 < length c.loop-c.stack
+framed c =
+    let f = front_less _ _ _ _ c.loop-c.invariant.0 c.in-Some.ensures.steps in
+    digit_frame c.requires.0 c.requires.1 c.loop-c.invariant.1 f.0 f.1
 
-pub bounds-text-k : goal.bounds-text-k
-bounds-text-k c = omega arith
+pub loop-c-init : goal.loop-c-init
+loop-c-init c =
+    laid_none c.requires.0 (rw (c.into_iter-c-iterator.ensures.into_iter_gives, c.rev-c-items.ensures.source) c.iter.ensures.rest)
 
-pub lay_digit-got-requires : goal.lay_digit-got-requires
-lay_digit-got-requires c = (c.loop-i.invariant.ready, takes_digit c.requires.0 c.requires.1 c.loop-i.invariant (omega arith))
+pub lay_digit-requires : goal.lay_digit-requires
+lay_digit-requires c = (c.loop-c.invariant.1.ready, taken (goal.at.lay_digit-requires c).In-Some)
 
-pub shape_of-table-in_default : goal.shape_of-table-in_default
-shape_of-table-in_default c = c.lay_digit-got.auto.table ∙ c.loop-i.invariant.same_words
+pub returns-in_err-made : goal.returns-in_err-made
+returns-in_err-made c =
+    let f = front_less _ _ _ _ c.loop-c.invariant.0 c.in-Some.ensures.steps in
+    rw c.from_residual.ensures
+    (none_laid c.requires.0 c.requires.1 c.loop-c.invariant.1 f.0 f.1 _ _ _ c.lay_digit.ensures.0 c.lay_digit.ensures.1 c.in_err-made.was)
 
-pub shape_of-stack-in_default : goal.shape_of-stack-in_default
-shape_of-stack-in_default c = c.loop-i.invariant.same_stack
+pub overflow_sub-held : goal.overflow_sub-held
+overflow_sub-held c = (taken (goal.at.overflow_sub-held c).In-Some).from_leaf
 
-pub shape_of-index-in_default : goal.shape_of-index-in_default
-shape_of-index-in_default c = c.lay_digit-got.auto.index ∙ c.loop-i.invariant.same_index
-
-pub returns-in_default : goal.returns-in_default
-returns-in_default c = none_laid c.requires.0 c.requires.1 c.loop-i.invariant (omega arith) _ _ _ c.lay_digit-got.ensures.0 c.lay_digit-got.ensures.1 c.in_default.is
-
-pub overflow_cast-at : goal.overflow_cast-at
-overflow_cast-at c = omega (arith, (takes_digit c.requires.0 c.requires.1 c.loop-i.invariant (omega arith)).to_fork)
-
-pub overflow_sub-at : goal.overflow_sub-at
-overflow_sub-at c = (takes_digit c.requires.0 c.requires.1 c.loop-i.invariant (omega arith)).from_leaf
-
-pub overflow_sub-at-in-loop-i : goal.overflow_sub-at-in-loop-i
-overflow_sub-at-in-loop-i c = (takes_digit c.requires.0 c.requires.1 c.loop-i.invariant (omega arith)).branches
+pub overflow_sub-held-in-loop-c : goal.overflow_sub-held-in-loop-c
+overflow_sub-held-in-loop-c c = (taken (goal.at.overflow_sub-held-in-loop-c c).In-Some).branches
 
 pub overflow_cast-stack : goal.overflow_cast-stack
-overflow_cast-stack c = omega (arith, node_small c.requires.0 c.requires.1 c.loop-i.invariant (omega arith) _ _ _ c.lay_digit-got.ensures.0 c.lay_digit-got.ensures.1 c.in-Node.is)
+overflow_cast-stack c =
+    let f = front_less _ _ _ _ c.loop-c.invariant.0 c.in-Some.ensures.steps in
+    omega (arith, node_small c.requires.0 c.requires.1 c.loop-c.invariant.1 f.0 f.1 _ _ _ c.lay_digit.ensures.0 c.lay_digit.ensures.1 c.in_ok-made.was)
 
 pub overflow_mul-stack : goal.overflow_mul-stack
-overflow_mul-stack c = omega (arith, digit_frame c.requires.0 c.requires.1 c.loop-i.invariant (omega arith), c.loop-i.invariant.same_stack, c.well_formed)
+overflow_mul-stack c = omega (arith, framed (goal.at.overflow_mul-stack c).In-Some, c.loop-c.invariant.1.same_stack, c.well_formed)
 
-pub offset_bounds-stack-at : goal.offset_bounds-stack-at
-offset_bounds-stack-at c = omega (arith, digit_frame c.requires.0 c.requires.1 c.loop-i.invariant (omega arith), c.loop-i.invariant.same_stack, c.well_formed)
+pub offset_bounds-stack-held : goal.offset_bounds-stack-held
+offset_bounds-stack-held c = omega (arith, framed (goal.at.offset_bounds-stack-held c).In-Some, c.loop-c.invariant.1.same_stack, c.well_formed)
 
-pub bounds-stack-at : goal.bounds-stack-at
-bounds-stack-at c = digit_frame c.requires.0 c.requires.1 c.loop-i.invariant (omega arith)
+pub bounds-stack-held : goal.bounds-stack-held
+bounds-stack-held c = framed (goal.at.bounds-stack-held c).In-Some
 
 pub overflow_add-held : goal.overflow_add-held
-overflow_add-held c = omega (arith, digit_frame c.requires.0 c.requires.1 c.loop-i.invariant (omega arith), c.loop-i.invariant.same_stack, c.well_formed)
+overflow_add-held c = omega (arith, framed (goal.at.overflow_add-held c).In-Some, c.loop-c.invariant.1.same_stack, c.well_formed)
 
-pub loop-i-smaller : goal.loop-i-smaller
-loop-i-smaller c = omega arith
-
-pub loop-i-preserved : goal.loop-i-preserved
-loop-i-preserved c = laid_next c.requires.0 c.requires.1 c.loop-i.invariant (omega arith) _ _ _ c.lay_digit-got.ensures.0 c.lay_digit-got.ensures.1 c.in-Node.is c.lay_digit-got.auto.table c.lay_digit-got.auto.index
+pub loop-c-preserved : goal.loop-c-preserved
+loop-c-preserved c =
+    let f = front_less _ _ _ _ c.loop-c.invariant.0 c.in-Some.ensures.steps in
+    (f.2, laid_next c.requires.0 c.requires.1 c.loop-c.invariant.1 f.0 f.1 _ _ _ c.lay_digit.ensures.0 c.lay_digit.ensures.1 c.in_ok-made.was c.lay_digit.auto.table c.lay_digit.auto.index)
 
 pub word-requires : goal.word-requires
-word-requires c = one_frame c.requires.0 c.requires.1 c.loop-i.invariant (omega arith)
-
-pub shape_of-table : goal.shape_of-table
-shape_of-table c = c.loop-i.invariant.same_words
-
-pub shape_of-stack : goal.shape_of-stack
-shape_of-stack c = c.loop-i.invariant.same_stack
-
-pub shape_of-index : goal.shape_of-index
-shape_of-index c = c.loop-i.invariant.same_index
+word-requires c = one_frame c.requires.0 c.requires.1 c.loop-c.invariant.1 (omega (arith, c.in-None.ensures.steps.0))
 
 pub returns : goal.returns
-returns c = all_laid c.requires.0 c.requires.1 c.loop-i.invariant (omega arith) c.word.ensures.0
+returns c = all_laid c.requires.0 c.requires.1 c.loop-c.invariant.1 (omega (arith, c.in-None.ensures.steps.0)) c.word.ensures.0
