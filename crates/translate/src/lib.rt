@@ -1,96 +1,61 @@
 // Translate as a public operation: 1 and 2 by the checks at entry, which fill an index of the table's nodes, then the crate `term`. The definition and the
 // laws that callers cite are in the crate `translation`. Assumes nothing.
 //
-// The index is an array of its own, in four sizes, so that a table pays for an index about as long as it needs. The longest are met after the most tests,
-// and the work of the call stands beside the array: so a compiler gives them frames of their own, which the shorter tables then do not touch.
+// The index is an array of its own, in four lengths, so that a table pays for an index about as long as it needs. The longest are met after the most
+// tests, and the work of the call stands beside the array: so a compiler gives them frames of their own, which the shorter tables then do not touch.
 #![tactic(auto)]
 
-ghost use Rattle.std.specs.Prelude.{◌≡◌, ◌≤◌, length};
+ghost use Rattle.std.specs.Prelude.{◌≡◌, ◌≤◌, ◌*◌, ◌/◌, length};
 ghost use Rattle.table.specs.Outcome.{whole};
 ghost use Rattle.translation.specs.Translate.{translate};
 
-use checks::Checked;
 use table::{Made, Refusal};
 
-// In a table of at most 64 nodes.
-fn translate_64(table: &mut [u32], used: usize, stack: &mut [u32], bytes: &[u8]) -> Made
-    requires { length table.old ≤ 128 }
+// In a table of at most N / 3 nodes, by an index of N entries, of which two for each node are slots.
+fn translate_in<const N: usize>(
+    table: &mut [u32],
+    used: usize,
+    stack: &mut [u32],
+    bytes: &[u8],
+) -> Result<Made, Refusal>
+    requires { (3 ≤ N) × (N ≤ 196608) × (length table.old ≤ N / 3 * 2) }
     ensures { whole result table.new stack.new
         ≡ translate table.old used stack.old bytes.now }
 {
-    let mut index = [0u16; 192];
-    let checked = checks::check_in(true, table, used, stack, &mut index, 128);
-    if let Checked::Refused(refusal) = checked {
-        return Made::Refused(refusal);
-    }
-    term::translate_rule(table, used, stack, bytes, &mut index, 128)
-}
-
-// In a table of at most 1,024 nodes.
-fn translate_1024(table: &mut [u32], used: usize, stack: &mut [u32], bytes: &[u8]) -> Made
-    requires { length table.old ≤ 2048 }
-    ensures { whole result table.new stack.new
-        ≡ translate table.old used stack.old bytes.now }
-{
-    let mut index = [0u16; 3072];
-    let checked = checks::check_in(true, table, used, stack, &mut index, 2048);
-    if let Checked::Refused(refusal) = checked {
-        return Made::Refused(refusal);
-    }
-    term::translate_rule(table, used, stack, bytes, &mut index, 2048)
-}
-
-// In a table of at most 8,192 nodes.
-fn translate_8192(table: &mut [u32], used: usize, stack: &mut [u32], bytes: &[u8]) -> Made
-    requires { length table.old ≤ 16384 }
-    ensures { whole result table.new stack.new
-        ≡ translate table.old used stack.old bytes.now }
-{
-    let mut index = [0u16; 24576];
-    let checked = checks::check_in(true, table, used, stack, &mut index, 16384);
-    if let Checked::Refused(refusal) = checked {
-        return Made::Refused(refusal);
-    }
-    term::translate_rule(table, used, stack, bytes, &mut index, 16384)
-}
-
-// In a table of at most 65,536 nodes.
-fn translate_65536(table: &mut [u32], used: usize, stack: &mut [u32], bytes: &[u8]) -> Made
-    requires { length table.old ≤ 131072 }
-    ensures { whole result table.new stack.new
-        ≡ translate table.old used stack.old bytes.now }
-{
-    let mut index = [0u16; 196608];
-    let checked = checks::check_in(true, table, used, stack, &mut index, 131072);
-    if let Checked::Refused(refusal) = checked {
-        return Made::Refused(refusal);
-    }
-    term::translate_rule(table, used, stack, bytes, &mut index, 131072)
+    let mut index = [0u16; N];
+    let slots = N / 3 * 2;
+    checks::check_in(true, table, used, stack, &mut index, slots)?;
+    term::translate_rule(table, used, stack, bytes, &mut index, slots)
 }
 
 // Translates a rule: its tree's root and the new count of used nodes, or a refusal.
-pub fn translate(table: &mut [u32], used: usize, stack: &mut [u32], bytes: &[u8]) -> Made
+pub fn translate(
+    table: &mut [u32],
+    used: usize,
+    stack: &mut [u32],
+    bytes: &[u8],
+) -> Result<Made, Refusal>
     ensures { whole result table.new stack.new
         ≡ translate table.old used stack.old bytes.now }
 {
     let n = table.len();
     if 131072 < n {
-        return Made::Refused(Refusal::Limits);
+        return Err(Refusal::Limits);
     }
     if n <= 128 {
-        return translate_64(table, used, stack, bytes);
+        return translate_in::<192>(table, used, stack, bytes);
     }
     if n / 2 < used {
-        return Made::Refused(Refusal::Limits);
+        return Err(Refusal::Limits);
     }
     if n <= 2048 {
-        return translate_1024(table, used, stack, bytes);
+        return translate_in::<3072>(table, used, stack, bytes);
     }
     if 65536 < stack.len() {
-        return Made::Refused(Refusal::Limits);
+        return Err(Refusal::Limits);
     }
     if n <= 16384 {
-        return translate_8192(table, used, stack, bytes);
+        return translate_in::<24576>(table, used, stack, bytes);
     }
-    translate_65536(table, used, stack, bytes)
+    translate_in::<196608>(table, used, stack, bytes)
 }
