@@ -68,9 +68,9 @@ pub fn read_digits(table: &[u32], node: usize) -> Option<Digits>
 {
     let mut digits = [0usize; 9];
     let mut at = node;
-    for i in 0..9 {
+    for digit in &mut digits {
         let item = item_at(table, at)?;
-        digits[i] = item.digit;
+        *digit = item.digit;
         at = item.rest;
     }
     if at == 0 {

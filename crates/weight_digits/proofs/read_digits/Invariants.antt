@@ -10,9 +10,9 @@ use Rattle.weights.specs.Claims.{NineDigits}
 use Rattle.weights.proofs.Places.{after}
 use Rattle.weight_digits.proofs.read_digits.Given as goal
 
-abbrev pub invariant-loop-i : goal.invariant-loop-i
-invariant-loop-i l = record {
-  nine : NineDigits l.digits;
+abbrev pub invariant-loop-digit : goal.invariant-loop-digit
+invariant-loop-digit l = record {
+  nine : NineDigits l.digit-items;
   read : InUse l.table l.node
-      → InUse l.table l.at × (digits_of_weight (tree_at l.table l.node) ≡ after (take l.i l.digits) (digits_in (9 - l.i) (tree_at l.table l.at)));
+      → InUse l.table l.at × (digits_of_weight (tree_at l.table l.node) ≡ after (take l.digit-index l.digit-items) (digits_in (9 - l.digit-index) (tree_at l.table l.at)));
 }
