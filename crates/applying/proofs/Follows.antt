@@ -128,7 +128,7 @@ module _ (w : List ℕ) (u : ℕ) (s : List ℕ) (f n limit : ℕ) where
   unfolding applied_numbers applied_uses refused_numbers
   apply_sum = go (apply w u s f n limit).answer refl
     where
-      go : (a : (Result Applied Refusal)) → (apply w u s f n limit).answer ≡ a → (applied_numbers u a).steps ≡ steps (applied_uses a)
+      go : (a : Result Applied Refusal) → (apply w u s f n limit).answer ≡ a → (applied_numbers u a).steps ≡ steps (applied_uses a)
       go (Ok m) e = (apply_follows m.node m.used m.steps m.uses e).steps_are
       go (Err d) e = refl
 

@@ -18,12 +18,12 @@ abbrev pub not_applied : Refusal → Result Applied Refusal
 not_applied e = Err e
 
 -- the numbers of Apply's answer, with `used` as at entry
-unfoldable pub applied_numbers : ℕ → (Result Applied Refusal) → Numbers
+unfoldable pub applied_numbers : ℕ → Result Applied Refusal → Numbers
 applied_numbers used (Ok m) = record { refusal = 0; node = m.node; used = m.used; steps = m.steps; digits = 0 }
 applied_numbers used (Err e) = refused_numbers used e
 
 -- "Apply and Run return the uses of each, five counts in document 01's order, all 0 on refusal." ([5])
-unfoldable pub applied_uses : (Result Applied Refusal) → Uses
+unfoldable pub applied_uses : Result Applied Refusal → Uses
 applied_uses (Ok m) = m.uses
 applied_uses (Err e) = no_uses
 

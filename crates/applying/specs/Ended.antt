@@ -37,6 +37,6 @@ unfoldable pub apply_ended : List ℕ → ℕ → List ℕ → ℕ → ℕ → �
 apply_ended w u s f n limit = ended u s (uses (frames s) limit (begin w u f n))
 
 -- Apply's answer does not tell where it stopped
-unfoldable pub applied_of : Ended → (Result Applied Refusal)
+unfoldable pub applied_of : Ended → Result Applied Refusal
 applied_of (Ok m) = applied m.node m.used m.steps m.uses
 applied_of (Err m) = not_applied m.refusal

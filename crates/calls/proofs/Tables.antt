@@ -73,12 +73,12 @@ pub left_goes : (c : Call) (t : Table) → Goes t (left c t)
 unfolding left made_numbers applying.applied_numbers refused_numbers
 left_goes (read s l) t = go (ternary.read t.words t.used s l).answer refl
   where
-    go : (a : (Result Made Refusal)) → (ternary.read t.words t.used s l).answer ≡ a → Goes t (record { words = (ternary.read t.words t.used s l).table; used = (made_numbers t.used a).used })
+    go : (a : Result Made Refusal) → (ternary.read t.words t.used s l).answer ≡ a → Goes t (record { words = (ternary.read t.words t.used s l).table; used = (made_numbers t.used a).used })
     go (Ok m) e = placed_goes (read_gives t.words t.used s l m.node m.used e).places
     go (Err r) e = refused_goes (read_refused t.words t.used s l r e)
 left_goes (translate s b) t = go (translation.translate t.words t.used s b).answer refl
   where
-    go : (a : (Result Made Refusal)) → (translation.translate t.words t.used s b).answer ≡ a → Goes t (record { words = (translation.translate t.words t.used s b).table; used = (made_numbers t.used a).used })
+    go : (a : Result Made Refusal) → (translation.translate t.words t.used s b).answer ≡ a → Goes t (record { words = (translation.translate t.words t.used s b).table; used = (made_numbers t.used a).used })
     go (Ok m) e = placed_goes (translate_gives t.words t.used s b m.node m.used e).lays.places
     go (Err r) e = refused_goes (translate_refused t.words t.used s b r e)
 left_goes (apply s f n limit) t = go (applying.apply t.words t.used s f n limit).answer refl

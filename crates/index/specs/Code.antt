@@ -24,6 +24,6 @@ unfoldable pub ReadyGot : code.Option Made → List ℕ → ℕ → List ℕ →
 ReadyGot (Some m) w s ix = Ready w m.used s ix
 ReadyGot None w s ix = Unit {0}
 
-unfoldable pub ReadyMade : (Result Made Refusal) → List ℕ → ℕ → List ℕ → Type 0
+unfoldable pub ReadyMade : Result Made Refusal → List ℕ → ℕ → List ℕ → Type 0
 ReadyMade (Ok m) w s ix = Ready w m.used s ix
 ReadyMade (Err e) w s ix = Unit {0}

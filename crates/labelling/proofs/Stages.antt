@@ -82,25 +82,25 @@ module _ {w s o : List ℕ} (fit : Fit w s o) (t : Term) (v : List ℕ) (x : Tre
       lacked (not_in_use q h) = absurd (h hf.inside hn.inside)
       lacked (no_nodes q h k l) = (in_label had read_all l, rw (← long) (back_full st.fine refl))
 
-      go : (a : (Result Made Refusal)) → r.answer ≡ a → LabelStaged w s o t v x (after_made z.used o (whole r.answer r.table y) (λ w' u' s' v. writes w' u' s' o v no_uses) a)
+      go : (a : Result Made Refusal) → r.answer ≡ a → LabelStaged w s o t v x (after_made z.used o (whole r.answer r.table y) (λ w' u' s' v. writes w' u' s' o v no_uses) a)
       go (Ok m) e = end (writing fit stands root no_uses)
         where
-          g : Labels z.words z.used f n i u
-          g = label_gives z.words z.used f n i u e
+          g : Labels z.words z.used f n m.node m.used
+          g = label_gives z.words z.used f n m.node m.used e
 
           z' : Table
-          z' = record { words = r.table; used = u }
+          z' = record { words = r.table; used = m.used }
 
           stands : Stands w s z' y
           stands = record { fine = g.places.fine; extends = extends_trans st.extends g.places.extends; stack = st.stack }
 
-          root : Has z' i (labelled (rule_tree t) x)
+          root : Has z' m.node (labelled (rule_tree t) x)
           root = record { inside = g.places.inside; tree = rw (← hf.tree, ← hn.tree) g.places.tree }
 
-          count : u ≤ size (rule_tree t) + length v + 7
+          count : m.used ≤ size (rule_tree t) + length v + 7
           count = omega (arith, g.used_most, used)
 
-          end : Writing w s o z' no_uses (labelled (rule_tree t) x) (writes r.table u y o i no_uses) → LabelStaged w s o t v x (writes r.table u y o i no_uses)
+          end : Writing w s o z' no_uses (labelled (rule_tree t) x) (writes r.table m.used y o m.node no_uses) → LabelStaged w s o t v x (writes r.table m.used y o m.node no_uses)
           end (written h q) = ends (record {
             fine = stands.fine;
             extends = stands.extends;
@@ -109,7 +109,7 @@ module _ {w s o : List ℕ} (fit : Fit w s o) (t : Term) (v : List ℕ) (x : Tre
             read_table = z;
             label_node_lem = n;
             label_read = read_all;
-            node = i;
+            node = m.node;
             nodes_are = g.nodes_are;
             used_most = count;
           }) h q

@@ -21,6 +21,7 @@ use Rattle.labelled.specs.Label.{labelled}
 use Rattle.fields.specs.Packet.{Packet}
 use Rattle.running.specs.Run.{ran_numbers, ran_uses, ran}
 use Rattle.running.specs.declared.Ran.{Ran}
+use Rattle.running.proofs.OneStage.{ran_is}
 use Rattle.labelling.specs.LabelPacket.{label_packet}
 use Rattle.labelling.specs.Claims.{LabelChecked, LabelCompletes}
 use Rattle.labelling.proofs.Stages.{LabelStaged, stops, ends}
@@ -35,10 +36,12 @@ label_writes w s o l j u n k q = go (checking w s o l)
     of_stages c (stops h e) = zero_one (cc e.outcome)
     of_stages {p} {t} {v} {x} c (ends {z = z} h f e) =
         let r = labelled (rule_tree t) x in
-        let i : j ≡ 0 = cc in
-        let a : k ≡ no_uses = cc in
-        let b : z.used ≡ u = cc in
-        let d : n ≡ length (text r) = cc in
+        let same : ran 0 z.used (length (text r)) no_uses ≡ ran j u n k = cc in
+        let parts = ran_is same in
+        let i : j ≡ 0 = sym parts.0 in
+        let a : k ≡ no_uses = sym parts.3 in
+        let b : z.used ≡ u = parts.1 in
+        let d : n ≡ length (text r) = sym parts.2 in
         let words : (label_packet w s o l).table ≡ z.words = cc in
         let out : (label_packet w s o l).out ≡ text r ++ drop n o = rw d (ap (λ (x : Outcome (Result Ran Refusal)). x.out) e) in
         record {

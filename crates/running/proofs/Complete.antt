@@ -33,7 +33,7 @@ module _ {w s o l : List ℕ} {p : Packet} {t : Term} {args : List Tree} (c : Ch
   pub run_complete : {r : Tree} {k : Uses} → ApplyAll (rule_tree t) args r k → steps k ≤ p.limit → Writes w s o l r k
   run_complete {r} {k} d h = go (run_checked c)
     where
-      go : {at : (code.Option Stop)} → Staged w s o p t args (run w s o l) at → Writes w s o l r k
+      go : {at : code.Option Stop} → Staged w s o p t args (run w s o l) at → Writes w s o l r k
       go (stops {e = e} x b q j) = inr (e, stops_by TooFew (λ z v ns a. absurd (omega (arith, a.no_tree refl d))) few_nodes few_frames few_bytes x, ap (λ (z : Outcome (Result Ran Refusal)). z.answer) q)
       go (ends {z = z} x q j) =
           let i = apply_all_unique d x.translated in

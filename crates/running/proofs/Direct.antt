@@ -25,7 +25,6 @@ use Rattle.calculus.proofs.Demand3.{demand_3}
 use Rattle.ternary.specs.Text.{text, tree_of}
 use Rattle.ternary.specs.Read.{readable}
 use Rattle.table.proofs.Words.{zero_one}
-use Rattle.table.proofs.Laid.{same_ok}
 use Rattle.ternary.proofs.Reading.{readable_some}
 use Rattle.fields.specs.Packet.{Packet}
 use Rattle.running.specs.Run.{run, ran_numbers, ran_uses, not_ran, ran}
@@ -33,6 +32,7 @@ use Rattle.running.specs.Claims.{end_table, Checked, Completes}
 use Rattle.running.specs.declared.Ran.{Ran}
 use Rattle.running.specs.declared.Stop.{Stop}
 use Rattle.running.proofs.Undone.{reached_ends}
+use Rattle.running.proofs.OneStage.{ran_is}
 use Rattle.running.proofs.Outcomes.{Staged, stops, ends}
 use Rattle.running.proofs.Checks.{run_checked, Checking, fails, goes_on, checking}
 use Rattle.running.proofs.Refused.{refuses_with}
@@ -51,14 +51,15 @@ module _ (w s o l : List ℕ) (m u n : ℕ) (k : Uses) where
   unfolding Translated ran_numbers ran_uses end_table
   run_direct q = go (checking w s o l)
     where
-      of_stages : {p : Packet} {t : Term} {args : List Tree} {at : (code.Option Stop)} → Checked w s o l p t args → Staged w s o p t args (run w s o l) at → Completes w s o l m u n k
+      of_stages : {p : Packet} {t : Term} {args : List Tree} {at : code.Option Stop} → Checked w s o l p t args → Staged w s o p t args (run w s o l) at → Completes w s o l m u n k
       of_stages c (stops h b e i) = zero_one (cc)
       of_stages {p} {t} {args} c (ends {r = r} {k = j} {z = z} h e no_stop) =
           let same : ran (steps j) z.used (length (text r)) j ≡ ran m u n k = cc in
-          let a : j ≡ k = ap (λ (x : Ran). x.uses) (same_ok same) in
-          let i : m ≡ steps k = rw (← a) (sym (ap (λ (x : Ran). x.steps) (same_ok same))) in
-          let b : z.used ≡ u = ap (λ (x : Ran). x.used) (same_ok same) in
-          let d : n ≡ length (text r) = sym (ap (λ (x : Ran). x.digits) (same_ok same)) in
+          let parts = ran_is same in
+          let a : j ≡ k = parts.3 in
+          let i : m ≡ steps k = rw (← a) (sym parts.0) in
+          let b : z.used ≡ u = parts.1 in
+          let d : n ≡ length (text r) = sym parts.2 in
           let words : (run w s o l).table ≡ z.words = cc in
           let out : (run w s o l).out ≡ text r ++ drop n o = rw d (ap (λ (x : Outcome (Result Ran Refusal)). x.out) e) in
           let x : ApplyAll (rule_tree t) args r k = rw (← a) h.translated in
@@ -108,6 +109,6 @@ pub run_sum : (w s o l : List ℕ) → (ran_numbers (run w s o l).answer).steps 
 unfolding ran_numbers ran_uses refused_numbers
 run_sum w s o l = go (run w s o l).answer refl
   where
-    go : (a : (Result Ran Refusal)) → (run w s o l).answer ≡ a → (ran_numbers a).steps ≡ steps (ran_uses a)
+    go : (a : Result Ran Refusal) → (run w s o l).answer ≡ a → (ran_numbers a).steps ≡ steps (ran_uses a)
     go (Ok m) e = (run_direct w s o l m.steps m.used m.digits m.uses e).steps_are
     go (Err d) e = refl

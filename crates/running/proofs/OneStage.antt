@@ -22,7 +22,7 @@ use Rattle.table.proofs.Words.{zero_one}
 use Rattle.table.proofs.Trees.{extends_refl, extends_trans}
 use Rattle.table.proofs.Making.{has}
 use Rattle.table.proofs.Entry.{enters, lacks_entry}
-use Rattle.table.proofs.Laid.{made_is}
+use Rattle.table.proofs.Laid.{made_is, same_ok}
 use Rattle.table.specs.Refusal.{made, not_made}
 use Rattle.table.specs.declared.Made.{Made}
 use Rattle.ternary.specs.Text.{text, most_pending}
@@ -64,6 +64,10 @@ pub stop_here : {w s o : List ℕ} {z : Table} {y : List ℕ} → Stands w s z y
     → {e : Refusal} → Stopped w s o m e (stopped e x z.used v o)
 unfolding stopped
 stop_here st b v l = let c = back_cleared st.extends b in record { within = omega (arith, b.within, st.extends.kept.same_length); outcome = rw (c, l) }
+
+-- two answers of Run that are equal are so in each part
+pub ran_is : {j u n j' u' n' : ℕ} {k k' : Uses} → ran j u n k ≡ ran j' u' n' k' → (j ≡ j') × (u ≡ u') × (n ≡ n') × (k ≡ k')
+ran_is q = let p = same_ok q in (ap (λ (x : Ran). x.steps) p, ap (λ (x : Ran). x.used) p, ap (λ (x : Ran). x.digits) p, ap (λ (x : Ran). x.uses) p)
 
 -- the table and the node that were placed
 placed_place : (m : Placed) (s : List ℕ) {q : Rattle.table.specs.Outcome.Outcome (Result Made Refusal)} {v u' : ℕ} → q ≡ placed m s → q.answer ≡ made v u'
@@ -119,7 +123,7 @@ translating {w} {s} {o} fit b t is_rule = go r.answer refl
         let c : t' ≡ t = cc in
         record { made = capacity w; stops = translate_nodes (rw (← c) h) (rw c at k); back = back_full st.fine refl; stack = zeros_length _ s refl }
 
-    go : (a : (Result Made Refusal)) → r.answer ≡ a → Translating w s o b t
+    go : (a : Result Made Refusal) → r.answer ≡ a → Translating w s o b t
     go (Ok m) e =
         let g = translate_gives w 0 s b m.node m.used e in
         let c : g.term ≡ t = cc g.is_rule in
@@ -176,7 +180,7 @@ reading {w} {s} {o} fit {z} {y} st l x is = go r.answer refl
           stack = zeros_length _ y refl ∙ st.stack;
         }
 
-    go : (a : (Result Made Refusal)) → r.answer ≡ a → Reading w s o z y l x
+    go : (a : Result Made Refusal) → r.answer ≡ a → Reading w s o z y l x
     go (Ok m) e =
         let g = read_gives z.words z.used y l m.node m.used e in
         let c = g.places in

@@ -41,7 +41,7 @@ pub record Ends (w s o : List ℕ) (p : Packet) (t : Term) (args : List Tree) (r
   pub room : length (text r) ≤ length o
 
 -- the two kinds of the stages' outcome x, with where it is told that applying stopped
-pub data Staged (w s o : List ℕ) (p : Packet) (t : Term) (args : List Tree) (x : Outcome (Result Ran Refusal)) (at : (code.Option Stop)) : Type 0 where
+pub data Staged (w s o : List ℕ) (p : Packet) (t : Term) (args : List Tree) (x : Outcome (Result Ran Refusal)) (at : code.Option Stop) : Type 0 where
   stops : {e : Refusal} {m : ℕ} (h : Stops w s o p t args e m) → m ≤ capacity w → x ≡ whole_out (not_ran e) (cleared w 0 (m * 2)) (zeros s) o → at ≡ stop_of h
       → Staged w s o p t args x at
   ends : {r : Tree} {k : Uses} {z : Table} → Ends w s o p t args r k z

@@ -81,7 +81,7 @@ module _ (w s o l : List ℕ) where
       by : {c : Refusal} → Refuses w s o l (run w s o l) c → Refuses w s o l (run w s o l) e
       by {c} r = let a : c ≡ e = cc (refuses_with r) in rw (← a) r
 
-      of_stages : {p : Packet} {t : Term} {args : List Tree} {at : (code.Option Stop)} → Checked w s o l p t args → Staged w s o p t args (run w s o l) at → Refuses w s o l (run w s o l) e
+      of_stages : {p : Packet} {t : Term} {args : List Tree} {at : code.Option Stop} → Checked w s o l p t args → Staged w s o p t args (run w s o l) at → Refuses w s o l (run w s o l) e
       of_stages c (outcomes.stops h k r i) = by (stops c h k r)
       of_stages c (outcomes.ends h r i) = zero_one (cc)
 

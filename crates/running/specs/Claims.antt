@@ -155,7 +155,7 @@ pub data Stops (w s o : List ℕ) (p : Packet) (t : Term) (args : List Tree) : R
 
 -- Where a stage stops: "for a stop while applying [..] the argument's place (1 to 8), the steps taken in the whole run and which of the five rules was
 -- wanted. [..] For every other outcome it gives Run's number alone." ([14])
-unfoldable pub stop_of : {w s o : List ℕ} {p : Packet} {t : Term} {args : List Tree} {e : Refusal} {m : ℕ} → Stops w s o p t args e m → (code.Option Stop)
+unfoldable pub stop_of : {w s o : List ℕ} {p : Packet} {t : Term} {args : List Tree} {e : Refusal} {m : ℕ} → Stops w s o p t args e m → code.Option Stop
 stop_of (in_translate h) = None
 stop_of (in_read h r) = None
 stop_of (in_apply h r x i) = at_place (length x.before + 1) (steps x.k + steps x.state.uses) (wanted x.state)

@@ -27,12 +27,12 @@ abbrev pub not_ran : Refusal → Result Ran Refusal
 not_ran e = Err e
 
 -- the numbers of the answer of Run, and of `label_packet`: "On refusal used is 0."
-unfoldable pub ran_numbers : (Result Ran Refusal) → Numbers
+unfoldable pub ran_numbers : Result Ran Refusal → Numbers
 ran_numbers (Ok m) = record { refusal = 0; node = 0; used = m.used; steps = m.steps; digits = m.digits }
 ran_numbers (Err e) = refused_numbers 0 e
 
 -- "Apply and Run return the uses of each, five counts in document 01's order, all 0 on refusal." ([5])
-unfoldable pub ran_uses : (Result Ran Refusal) → Uses
+unfoldable pub ran_uses : Result Ran Refusal → Uses
 ran_uses (Ok m) = m.uses
 ran_uses (Err e) = no_uses
 
@@ -42,15 +42,15 @@ stopped e w u s o = whole_out (not_ran e) (cleared w 0 (u * 2)) (zeros s) o
 
 -- What follows a stage: the refusal of an inner operation ends the call; else its node and its count of used nodes go on. u nodes were in use
 -- before the stage, o are the out bytes. `answer` says how a refusal is told.
-unfoldable pub after_made_by : {A : Type 0} → (Outcome (Result Ran Refusal) → A) → ℕ → List ℕ → Outcome (Result Made Refusal) → (List ℕ → ℕ → List ℕ → ℕ → A) → (Result Made Refusal) → A
+unfoldable pub after_made_by : {A : Type 0} → (Outcome (Result Ran Refusal) → A) → ℕ → List ℕ → Outcome (Result Made Refusal) → (List ℕ → ℕ → List ℕ → ℕ → A) → Result Made Refusal → A
 after_made_by answer u o r next (Ok m) = next r.table m.used r.stack m.node
 after_made_by answer u o r next (Err e) = answer (stopped e r.table u r.stack o)
 
 -- with its number alone
-abbrev pub after_made : ℕ → List ℕ → Outcome (Result Made Refusal) → (List ℕ → ℕ → List ℕ → ℕ → Outcome (Result Ran Refusal)) → (Result Made Refusal) → Outcome (Result Ran Refusal)
+abbrev pub after_made : ℕ → List ℕ → Outcome (Result Made Refusal) → (List ℕ → ℕ → List ℕ → ℕ → Outcome (Result Ran Refusal)) → Result Made Refusal → Outcome (Result Ran Refusal)
 after_made = after_made_by (λ x. x)
 
-unfoldable pub after_applied : ℕ → List ℕ → Outcome (Result Applied Refusal) → (List ℕ → ℕ → List ℕ → ℕ → Uses → Outcome (Result Ran Refusal)) → (Result Applied Refusal) → Outcome (Result Ran Refusal)
+unfoldable pub after_applied : ℕ → List ℕ → Outcome (Result Applied Refusal) → (List ℕ → ℕ → List ℕ → ℕ → Uses → Outcome (Result Ran Refusal)) → Result Applied Refusal → Outcome (Result Ran Refusal)
 after_applied u o r next (Ok m) = next r.table m.used r.stack m.node m.uses
 after_applied u o r next (Err e) = stopped e r.table u r.stack o
 

@@ -21,7 +21,7 @@ abbrev pub at_place : ℕ → ℕ → Rule → code.Option Stop
 at_place i j d = Some (record { place = i; steps = j; rule = d })
 
 -- Run's answer, and where applying stopped
-abbrev pub tell_at : (code.Option Stop) → Outcome (Result Ran Refusal) → Outcome Told
+abbrev pub tell_at : code.Option Stop → Outcome (Result Ran Refusal) → Outcome Told
 tell_at p = answered (λ a. record { ran = a; stop = p })
 
 -- an outcome of Run that is no stop while applying

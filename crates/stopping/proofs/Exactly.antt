@@ -42,14 +42,14 @@ use Rattle.stopping.proofs.Stopping.{stops_at}
 use Rattle.stopping.proofs.Forward.{told_forward, uses_from}
 
 -- Run's number alone tells of no stop
-alone : {A : Type 0} {e : Refusal} {i j : ℕ} {c : Kind} (a : (Result Ran Refusal)) → stop_by a None ≡ Applying e i j c → A
+alone : {A : Type 0} {e : Refusal} {i j : ℕ} {c : Kind} (a : Result Ran Refusal) → stop_by a None ≡ Applying e i j c → A
 unfolding stop_by
 alone (Ok m) q = zero_one (cc)
 alone (Err d) q = zero_one (cc)
 
 module _ (w s o l : List ℕ) where
   -- what is told of a run, by Run's answer and where applying stopped
-  answer_by : {a : (Result Ran Refusal)} {p : (code.Option Stop)} → (run w s o l).answer ≡ a → (tell w s o l).answer.stop ≡ p → (stopped w s o l).answer ≡ stop_by a p
+  answer_by : {a : Result Ran Refusal} {p : code.Option Stop} → (run w s o l).answer ≡ a → (tell w s o l).answer.stop ≡ p → (stopped w s o l).answer ≡ stop_by a p
   unfolding stopped
   answer_by q r = let m = ap (λ (x : Outcome (Result Ran Refusal)). x.answer) (tell_runs w s o l) in rw (m, q, r)
 
@@ -69,7 +69,7 @@ module _ (w s o l : List ℕ) where
           rw (e₁, i₁, j₁, c₁) at (stops_at k h g x)
       by_stop k (in_write h g x b y m n) r = alone (not_ran _) r
 
-      by_stage : {p : Packet} {t : Term} {args : List Tree} → Checked w s o l p t args → {a : (code.Option Stop)} → (tell w s o l).answer.stop ≡ a → Staged w s o p t args (run w s o l) a
+      by_stage : {p : Packet} {t : Term} {args : List Tree} → Checked w s o l p t args → {a : code.Option Stop} → (tell w s o l).answer.stop ≡ a → Staged w s o p t args (run w s o l) a
           → StopsAt w s o l e i j c
       by_stage k f (stops h b m r) = by_stop k h (sym (answer_by (ap (λ (x : Outcome (Result Ran Refusal)). x.answer) m) (f ∙ r)) ∙ q)
       by_stage k f (ends {r = x} {k = j} {z = z} h m r) = alone (ran (steps j) z.used (length (text x)) j) (sym (answer_by (ap (λ (x : Outcome (Result Ran Refusal)). x.answer) m) (f ∙ r)) ∙ q)
@@ -141,12 +141,12 @@ module _ (w s o l : List ℕ) where
     λ h. to (tell w s o l).answer.stop refl h.0 h.1,
   )
     where
-      from : (a : (Result Ran Refusal)) (p : (code.Option Stop)) → stop_by a p ≡ Refused e → a ≡ not_ran e
+      from : (a : Result Ran Refusal) (p : code.Option Stop) → stop_by a p ≡ Refused e → a ≡ not_ran e
       from (Ok m) p q = zero_one (cc)
       from (Err d) None q = let r : d ≡ e = cc in rw r
       from (Err d) (Some m) q = zero_one (cc)
 
-      to : (p : (code.Option Stop)) → (tell w s o l).answer.stop ≡ p → (run w s o l).answer ≡ not_ran e → ((i j : ℕ) (c : Kind) → StopsAt w s o l e i j c → ⊥)
+      to : (p : code.Option Stop) → (tell w s o l).answer.stop ≡ p → (run w s o l).answer ≡ not_ran e → ((i j : ℕ) (c : Kind) → StopsAt w s o l e i j c → ⊥)
           → (stopped w s o l).answer ≡ Refused e
       to None r q n = answer_by w s o l q r
       to (Some m) r q n = absurd (n m.place m.steps (kind m.rule) (stopped_at w s o l e m.place m.steps (kind m.rule) (answer_by w s o l q r)))
@@ -156,7 +156,7 @@ module _ (w s o l : List ℕ) where
   unfolding stopped stop_by
   completed_exactly = (λ q. from (tell w s o l).answer.ran (tell w s o l).answer.stop told_ran q, λ h. answer_by w s o l h.4 refl)
     where
-      from : (a : (Result Ran Refusal)) (p : (code.Option Stop)) → a ≡ (run w s o l).answer → stop_by a p ≡ Completed
+      from : (a : Result Ran Refusal) (p : code.Option Stop) → a ≡ (run w s o l).answer → stop_by a p ≡ Completed
           → (j : ℕ) × (u : ℕ) × (n : ℕ) × (k : Uses) × ((run w s o l).answer ≡ ran j u n k)
       from (Ok m) p r q = (m.steps, m.used, m.digits, m.uses, sym r)
       from (Err d) None r q = zero_one (cc)
@@ -167,7 +167,7 @@ module _ (w s o l : List ℕ) where
   unfolding stopped stop_by stopped_numbers ran_numbers refused_numbers
   stopped_number = rw (← told_ran) (go (tell w s o l).answer.ran (tell w s o l).answer.stop)
     where
-      go : (a : (Result Ran Refusal)) (p : (code.Option Stop)) → get_or (stopped_numbers (stop_by a p)) 0 0 ≡ (ran_numbers a).refusal
+      go : (a : Result Ran Refusal) (p : code.Option Stop) → get_or (stopped_numbers (stop_by a p)) 0 0 ≡ (ran_numbers a).refusal
       go (Ok m) p = refl
       go (Err d) None = refl
       go (Err d) (Some m) = refl
@@ -177,7 +177,7 @@ module _ (w s o l : List ℕ) where
   unfolding stopped stop_by
   stopped_refused e i j c q = sym told_ran ∙ from (tell w s o l).answer.ran (tell w s o l).answer.stop q
     where
-      from : (a : (Result Ran Refusal)) (p : (code.Option Stop)) → stop_by a p ≡ Applying e i j c → a ≡ not_ran e
+      from : (a : Result Ran Refusal) (p : code.Option Stop) → stop_by a p ≡ Applying e i j c → a ≡ not_ran e
       from (Ok m') p q = zero_one (cc)
       from (Err d) None q = zero_one (cc)
       from (Err d) (Some m') q = let x : d ≡ e = cc in rw x

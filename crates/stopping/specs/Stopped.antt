@@ -25,7 +25,7 @@ kind (rule.Triage p q) = Triage
 
 -- "for a stop while applying, gives Run's number, the argument's place (1 to 8), the steps taken in the whole run and which of the five rules was wanted.
 -- [..] For every other outcome it gives Run's number alone."
-unfoldable pub stop_by : (Result Ran Refusal) → (code.Option Stop) → Stopped
+unfoldable pub stop_by : Result Ran Refusal → code.Option Stop → Stopped
 stop_by (Err e) (Some m) = Applying e m.place m.steps (kind m.rule)
 stop_by (Err e) None = Refused e
 stop_by (Ok m) p = Completed
