@@ -12,7 +12,7 @@ returns-in_err-sixth c = no_place _ _ _ _ c.make.ensures.0 c.in_err-sixth.was (s
 pub make_spread-requires : goal.make_spread-requires
 make_spread-requires c =
     let d = onward (λ _. one_stands c.requires.0.fine _ _ (fork_words c.requires.1 c.requires.2)) c.make.ensures c.in_ok-sixth.was in
-    (d.ready, d.inside, omega arith)
+    (d.ready, omega arith, omega arith)
 
 pub returns : goal.returns
 unfolding whole_nodes
