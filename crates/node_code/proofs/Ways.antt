@@ -11,7 +11,7 @@ use Rattle.calculus.specs.Tree.{Tree}
 use Rattle.table.specs.Nodes.{tree_at}
 use Rattle.table.specs.Outcome.{at_entry}
 use Rattle.table.specs.declared.Refusal.TheVariants.{Node}
-use Rattle.table.specs.declared.Given.TheVariants.{Number, Nothing, Refused}
+use Rattle.std.specs.Prelude.{Some, None, Ok, Err}
 use Rattle.table.proofs.Ascending.{place_below, earlier_place}
 use Rattle.ternary.specs.Text.{text}
 use Rattle.ternary.proofs.OneText.{length_text}
@@ -22,8 +22,7 @@ use Rattle.short_codes.proofs.Holding.{values_hold, values_many}
 use Rattle.short_codes.proofs.Codes.{has_code, code_place}
 use Rattle.short_codes.proofs.Outcomes.{code_gives}
 use Rattle.code_values.specs.Code.{PlaceFor}
-use Rattle.node_code.specs.Code.{taken_text}
-use Rattle.node_code.specs.declared.Valued.TheVariants.{Short, Long}
+use Rattle.node_code.specs.Code.{digits, taken_text}
 use Rattle.node_code.proofs.Taking.{takes_all, takes_too_many}
 
 -- the place that is found is that of a value that the table holds
@@ -35,7 +34,7 @@ found_place x c r a p = go (ltb c r) (ltb (r + 1) 1374) refl refl
     go false true e f = omega (arith, ltb-false c r e, earlier_place values_hold.ascending c (r + 1) a.0 (omega (arith, p.next_above (ltb-true (r + 1) 1374 f), a.1)))
     go false false e f = omega (arith, ltb-false c r e, ltb-false (r + 1) 1374 f, a.0, values_many)
 
-found_code : (t : Tree) {m x r : ℕ} → taken_text 0 0 t ≡ Short m x → PlaceFor x r → IsCode t r
+found_code : (t : Tree) {m x r : ℕ} → taken_text 0 0 t ≡ Some (digits m x) → PlaceFor x r → IsCode t r
 unfolding value
 found_code t {m} {x} {r} e p =
     let a = takes_all 0 0 t e in
@@ -44,15 +43,15 @@ found_code t {m} {x} {r} e p =
     subst (IsCode t) (found_place (value (text t)) i.0 r (code_place i.1) k) i.1
 
 module _ (w : List ℕ) (u v : ℕ) (q : at_entry true w u [] ≡ none) where
-  pub no_node : u ≤ v → Refused Node ≡ code w u v
+  pub no_node : u ≤ v → Err Node ≡ code w u v
   no_node h = sym (code_gives w u v (not_in_use q h))
 
   module _ (h : v < u) where
     asked : Askable w u v
     asked = record { entered = q; in_use = h }
 
-    pub long_none : taken_text 0 0 (tree_at w v) ≡ Long → Nothing ≡ code w u v
+    pub long_none : taken_text 0 0 (tree_at w v) ≡ None → Ok None ≡ code w u v
     long_none e = sym (code_gives w u v (too_many asked (omega (arith, length_text (tree_at w v), takes_too_many 0 0 (tree_at w v) e))))
 
-    pub short_coded : {m x r : ℕ} → taken_text 0 0 (tree_at w v) ≡ Short m x → PlaceFor x r → Number r ≡ code w u v
+    pub short_coded : {m x r : ℕ} → taken_text 0 0 (tree_at w v) ≡ Some (digits m x) → PlaceFor x r → Ok (Some r) ≡ code w u v
     short_coded e p = sym (code_gives w u v (coded asked (found_code (tree_at w v) e p)))

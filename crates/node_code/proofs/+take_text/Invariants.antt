@@ -3,4 +3,4 @@ use Prim.Native.Nat.{◌-◌}
 use Rattle.node_code.proofs.+take_text.Given as goal
 
 abbrev pub decreases-take_text : goal.decreases-take_text
-decreases-take_text l = 10 - l.many
+decreases-take_text l = 10 - l.before.many

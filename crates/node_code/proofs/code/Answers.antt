@@ -4,35 +4,29 @@ use mathlib.Core.Bool.{true}
 use mathlib.Core.List.{[]}
 use mathlib.Core.Option.{none}
 use native.Mathlib.Omega.{arith}
+use borrow.Author.Rules.{rules}
 use Rattle.table.specs.Outcome.{at_entry}
-use Rattle.table.specs.declared.Given.TheVariants.{Refused}
-use Rattle.table.proofs.Entry.{entered, check_refuses}
+use Rattle.table.proofs.Entry.{entered}
 use Rattle.short_codes.specs.ShortCodes as coding
 use Rattle.short_codes.proofs.Numerals.{padded_least}
 use Rattle.node_code.proofs.Ways.{no_node, long_none, short_coded}
 use Rattle.node_code.proofs.code.Goals as goal
 
-pub returns-in-Refused : goal.returns-in-Refused
+pub returns-in_err-check : goal.returns-in_err-check
 unfolding coding.code
-returns-in-Refused c = check_refuses Refused _ (rw c.in-Refused.is at c.check-checked.ensures)
+returns-in_err-check c = let h = c.from_residual.ensures in search rules
 
 pub returns-then-used-node : goal.returns-then-used-node
-returns-then-used-node c =
-    let passed : at_entry true c.args.table.now c.args.used [] ≡ none = sym (rw c.in_default.is at c.check-checked.ensures) in
-    no_node _ _ _ passed c.if-used-node.true
+returns-then-used-node c = no_node _ _ _ (sym (rw c.in_ok-check.was at c.check.ensures)) c.if-used-node.true
 
-pub take_text-taken-requires : goal.take_text-taken-requires
-take_text-taken-requires c =
-    let passed : at_entry true c.args.table.now c.args.used [] ≡ none = sym (rw c.in_default.is at c.check-checked.ensures) in
+pub take_text-requires : goal.take_text-requires
+take_text-requires c =
+    let passed : at_entry true c.args.table.now c.args.used [] ≡ none = sym (rw c.in_ok-check.was at c.check.ensures) in
     let a = c.args in
     (record { used = a.used; fine = (entered true a.table.now a.used [] passed).table; inside = c.if-used-node.false }, omega arith, padded_least 0 1)
 
-pub returns-in-Short : goal.returns-in-Short
-returns-in-Short c =
-    let passed : at_entry true c.args.table.now c.args.used [] ≡ none = sym (rw c.in_default.is at c.check-checked.ensures) in
-    short_coded _ _ _ passed c.if-used-node.false (sym c.take_text-taken.ensures ∙ c.in-Short.is) c.place_at_most.ensures
+pub returns-in_default : goal.returns-in_default
+returns-in_default c = long_none _ _ _ (sym (rw c.in_ok-check.was at c.check.ensures)) c.if-used-node.false (sym c.take_text.ensures ∙ c.in_default.is)
 
-pub returns-in-Long : goal.returns-in-Long
-returns-in-Long c =
-    let passed : at_entry true c.args.table.now c.args.used [] ≡ none = sym (rw c.in_default.is at c.check-checked.ensures) in
-    long_none _ _ _ passed c.if-used-node.false (sym c.take_text-taken.ensures ∙ c.in-Long.is)
+pub returns : goal.returns
+returns c = short_coded _ _ _ (sym (rw c.in_ok-check.was at c.check.ensures)) c.if-used-node.false (sym c.take_text.ensures ∙ c.in-Some.is) c.place_at_most.ensures
