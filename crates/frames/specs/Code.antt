@@ -54,20 +54,21 @@ end_of ended.Frames m w s = stop Frames (state_of m w s)
 abbrev pub turn_of : Turned → List ℕ → List ℕ → Turn
 turn_of r w s = end_of r.end r.state w s
 
+-- the code's state with these uses
+abbrev pub machine_of : ℕ → ℕ → ℕ → ℕ → Uses → Machine
+machine_of used f n held k =
+    record {
+      used = used;
+      function = f;
+      argument = n;
+      held = held;
+      leaf = k.leaf;
+      stem = k.stem;
+      drop = k.drop;
+      spread = k.spread;
+      triage = k.triage;
+    }
+
 -- a further application, of the node f to the node n
 abbrev pub more_of : ℕ → ℕ → ℕ → ℕ → Uses → Turned
-more_of used f n held k =
-    record {
-      state = record {
-        used = used;
-        function = f;
-        argument = n;
-        held = held;
-        leaf = k.leaf;
-        stem = k.stem;
-        drop = k.drop;
-        spread = k.spread;
-        triage = k.triage;
-      };
-      end = ended.More;
-    }
+more_of used f n held k = record { state = machine_of used f n held k; end = ended.More }

@@ -6,7 +6,7 @@ ghost use Rattle.std.specs.Prelude.{◌≡◌, List, ℕ, ◌+◌, ◌*◌, ◌�
 ghost use Rattle.table.specs.Outcome.{frames};
 ghost use Rattle.applying.specs.Machine.{resume, hold};
 ghost use Rattle.applying.specs.States.{FrameIn};
-ghost use Rattle.frames.specs.Code.{frame_at, pushed, frames_of, state_of, turn_of, more_of};
+ghost use Rattle.frames.specs.Code.{frame_at, pushed, frames_of, uses_of, state_of, turn_of, machine_of, more_of};
 
 use applying::Frame;
 use calculus::Uses;
@@ -27,6 +27,53 @@ pub struct Machine {
     pub triage: usize,
 }
 
+impl Machine {
+    // A state with these uses.
+    pub fn new(used: usize, function: usize, argument: usize, held: usize, uses: Uses) -> Machine
+        ensures { result ≡ machine_of used function argument held uses }
+    {
+        let Uses {
+            leaf,
+            stem,
+            drop,
+            spread,
+            triage,
+        } = uses;
+        Machine {
+            used,
+            function,
+            argument,
+            held,
+            leaf,
+            stem,
+            drop,
+            spread,
+            triage,
+        }
+    }
+
+    // The uses so far.
+    pub fn uses(self) -> Uses
+        ensures { result ≡ uses_of self }
+    {
+        let Machine {
+            leaf,
+            stem,
+            drop,
+            spread,
+            triage,
+            ..
+        } = self;
+        Uses {
+            leaf,
+            stem,
+            drop,
+            spread,
+            triage,
+        }
+    }
+}
+
 // What a use led to: a further application, the outcome, or a stop for want of a node or a frame.
 #[derive(Clone, Copy)]
 pub enum End {
@@ -43,7 +90,8 @@ pub struct Turned {
     pub end: End,
 }
 
-// Writes frame `at`: three words a frame, of which a frame that names one node needs two.
+// Writes frame `at`: three words a frame, of which a frame that names one node needs two. The tag is a number, since it is a word of the lent stack.
+#[tactic(auto, unfolding(crate::specs::Code::pushed))]
 fn push(stack: &mut [u32], at: usize, frame: Frame)
     requires { (at * 3 + 2 < length stack.old) × FrameIn 4294967296 frame }
     ensures { stack.new ≡ pushed stack.old at frame }
@@ -66,20 +114,17 @@ fn push(stack: &mut [u32], at: usize, frame: Frame)
 }
 
 // Reads frame `at`.
+#[tactic(auto, unfolding(crate::specs::Code::frame_at, crate::specs::Code::frame_of))]
 fn top(stack: &[u32], at: usize) -> Frame
     requires { at * 3 + 2 < length stack.now }
     ensures { result ≡ frame_at stack.now at }
 {
-    let tag = nodes::word(stack, at * 3);
     let a = nodes::word(stack, at * 3 + 1);
-    if tag == 0 {
-        let b = nodes::word(stack, at * 3 + 2);
-        return Frame::SpreadFirst(a, b);
+    match nodes::word(stack, at * 3) {
+        0 => Frame::SpreadFirst(a, nodes::word(stack, at * 3 + 2)),
+        1 => Frame::SpreadSecond(a),
+        _ => Frame::TriageFirst(a),
     }
-    if tag == 1 {
-        return Frame::SpreadSecond(a);
-    }
-    Frame::TriageFirst(a)
 }
 
 // A further application: `function` to `argument`.
@@ -87,17 +132,7 @@ fn more(used: usize, function: usize, argument: usize, held: usize, uses: Uses) 
     ensures { result ≡ more_of used function argument held uses }
 {
     Turned {
-        state: Machine {
-            used: used,
-            function: function,
-            argument: argument,
-            held: held,
-            leaf: uses.leaf,
-            stem: uses.stem,
-            drop: uses.drop,
-            spread: uses.spread,
-            triage: uses.triage,
-        },
+        state: Machine::new(used, function, argument, held, uses),
         end: End::More,
     }
 }
@@ -109,23 +144,12 @@ pub fn resume(stack: &mut [u32], used: usize, held: usize, uses: Uses, v: usize)
 {
     if held == 0 {
         return Turned {
-            state: Machine {
-                used: used,
-                function: v,
-                argument: v,
-                held: 0,
-                leaf: uses.leaf,
-                stem: uses.stem,
-                drop: uses.drop,
-                spread: uses.spread,
-                triage: uses.triage,
-            },
+            state: Machine::new(used, v, v, 0, uses),
             end: End::Done,
         };
     }
     let at = held - 1;
-    let frame = top(stack, at);
-    match frame {
+    match top(stack, at) {
         Frame::SpreadFirst(p, n) => {
             push(stack, at, Frame::SpreadSecond(v));
             more(used, p, n, held, uses)
@@ -147,13 +171,12 @@ pub fn hold(
     requires { (state.held * 3 ≤ length stack.old) × FrameIn 4294967296 frame }
     ensures { (w : List ℕ) → turn_of result w stack.new ≡ hold (frames stack.old) (state_of state w stack.old) uses frame f n }
 {
-    let held = state.held;
-    if stack.len() / 3 <= held {
+    if stack.len() / 3 <= state.held {
         return Turned {
-            state: state,
+            state,
             end: End::Frames,
         };
     }
-    push(stack, held, frame);
-    more(state.used, f, n, held + 1, uses)
+    push(stack, state.held, frame);
+    more(state.used, f, n, state.held + 1, uses)
 }
