@@ -21,7 +21,6 @@ use Rattle.table.specs.Outcome.{at_entry}
 use Rattle.table.specs.declared.Refusal.{Refusal}
 use Rattle.table.specs.declared.Refusal.TheVariants.{Node, Weight}
 use Rattle.table.proofs.Lists.{from_place}
-use Rattle.table.proofs.Words.{zero_one}
 use Rattle.table.proofs.Entry.{entered}
 use Rattle.weights.specs.Digits.{grams_of, digits_of_weight, compare_digits}
 use Rattle.weights.specs.Weights.{weigh, grams, compare_both, compare_weights}
@@ -90,28 +89,28 @@ failed {r = r} h = let x = err_from_is_err_and r h in x.1 ∙ ap Err x.2
 pub weigh_none : (r : Option Digits) {e : Refusal} → Err e ≡ ok_or r Weight → Err e ≡ weigh (digits_by r)
 unfolding weigh
 weigh_none None q = ap Err (cc)
-weigh_none (Some d) q = zero_one (cc)
+weigh_none (Some d) q = cc
 
 pub weigh_some : (r : Option Digits) {d : Digits} → Ok d ≡ ok_or r Weight → Ok (grams_of d.digits) ≡ weigh (digits_by r)
 unfolding weigh
-weigh_some None q = zero_one (cc)
+weigh_some None q = cc
 weigh_some (Some x) {d} q = let e : d ≡ x = cc in rw e
 
 pub compare_no_first : (r : Option Digits) (o : maybe (List ℕ)) {e : Refusal} → Err e ≡ ok_or r Weight → Err e ≡ compare_both (digits_by r) o
 unfolding compare_both
 compare_no_first None o q = ap Err (cc)
-compare_no_first (Some d) o q = zero_one (cc)
+compare_no_first (Some d) o q = cc
 
 pub compare_no_second : (r s : Option Digits) {d : Digits} {e : Refusal} → Ok d ≡ ok_or r Weight → Err e ≡ ok_or s Weight → Err e ≡ compare_both (digits_by r) (digits_by s)
 unfolding compare_both
-compare_no_second None s p q = zero_one (cc)
+compare_no_second None s p q = cc
 compare_no_second (Some d) None p q = ap Err (cc)
-compare_no_second (Some d) (Some x) p q = zero_one (cc)
+compare_no_second (Some d) (Some x) p q = cc
 
 pub compare_some : (r s : Option Digits) {d x : Digits} → Ok d ≡ ok_or r Weight → Ok x ≡ ok_or s Weight → Ok (compare_digits d.digits x.digits) ≡ compare_both (digits_by r) (digits_by s)
 unfolding compare_both
-compare_some None s p q = zero_one (cc)
-compare_some (Some y) None p q = zero_one (cc)
+compare_some None s p q = cc
+compare_some (Some y) None p q = cc
 compare_some (Some y) (Some z) {d} {x} p q = let e : d ≡ y = cc in let f : x ≡ z = cc in rw (e, f)
 
 -- where neither 1 nor 2 is met

@@ -21,7 +21,6 @@ use Rattle.table.specs.Same.{Comparable}
 use Rattle.table.specs.declared.Refusal.{Refusal}
 use Rattle.table.specs.declared.Refusal.TheVariants.{Node, Weight}
 use Rattle.table.specs.declared.Made.{Made}
-use Rattle.table.proofs.Words.{zero_one}
 use Rattle.table.proofs.Making.{lay_full, lay_fills}
 use Rattle.table.proofs.Entry.{entered, enters, entry_lacks, lacks_entry}
 use Rattle.table.proofs.Laid.{laid_got, laid_full, full_outcome, placed_gives}
@@ -69,7 +68,7 @@ module _ (w : List ℕ) (u : ℕ) (x : Tree) (s : Sound (record { words = w; use
 
   -- the node that is given
   laid_node : {o : Outcome (Result Made Refusal)} → LaidOut w u x o → {v u' : ℕ} → o.answer ≡ made v u' → Lays w u x o v u'
-  laid_node (LaidOut.no_nodes k e) {v} {u'} q = zero_one (cc)
+  laid_node (LaidOut.no_nodes k e) {v} {u'} q = cc
   laid_node (LaidOut.enough k e) {v} {u'} q = placed_gives w u [] x v u' s k e q
 
 -- digits that are those of g grams are laid out as the weight of g grams; none are 14
@@ -132,8 +131,8 @@ module _ (w : List ℕ) (u g : ℕ) where
   weight_gives {v} {u'} q = go weight_case
     where
       go : WeightMade w u g (weight w u g) → (g ≤ 999999999) × Lays w u (weight_tree g) (weight w u g) v u'
-      go (WeightMade.of_entry l e) = zero_one (cc)
-      go (WeightMade.above_top p h e) = zero_one (cc)
+      go (WeightMade.of_entry l e) = cc
+      go (WeightMade.above_top p h e) = cc
       go (WeightMade.laid_out p {x = x} i k) =
           let b = (weight_exactly x g).0 i in
           (b.0, subst (λ (t : Tree). Lays w u t (weight w u g) v u') b.1 (laid_node w u x (sound_table w u p) k q))
@@ -205,10 +204,10 @@ module _ (w : List ℕ) (u a b : ℕ) where
   add_gives {v} {u'} {g} {h} q r = go add_case
     where
       go : WeightsAdded w u a b (add_weights w u a b) → (g + h ≤ 999999999) × Lays w u (weight_tree (g + h)) (add_weights w u a b) v u'
-      go (WeightsAdded.of_entry l e) = zero_one (cc)
-      go (WeightsAdded.not_in_use p n e) = zero_one (cc)
-      go (WeightsAdded.not_weights c n e) = zero_one (cc)
-      go (WeightsAdded.above_top c k m e) = zero_one (cc)
+      go (WeightsAdded.of_entry l e) = cc
+      go (WeightsAdded.not_in_use p n e) = cc
+      go (WeightsAdded.not_weights c n e) = cc
+      go (WeightsAdded.above_top c k m e) = cc
       go (WeightsAdded.laid_out c {g = g₂} {h = h₂} k {x = x} i m) =
           let y : g₂ ≡ g = one_number_of k.one r.one in
           let z : h₂ ≡ h = one_number_of k.two r.two in
@@ -243,9 +242,9 @@ module _ (w : List ℕ) (u v : ℕ) where
   grams_weight {g} e = go ((grams_exactly (Ok g)).0 e) refl
     where
       go : {a : Result ℕ Refusal} → Weighs w u v a → a ≡ Ok g → (at_entry true w u [] ≡ none) × (v < u) × IsWeight (tree_at w v) g
-      go (Weighs.of_entry l) q = zero_one (cc)
-      go (Weighs.not_in_use p h) q = zero_one (cc)
-      go (Weighs.not_weight p h n) q = zero_one (cc)
+      go (Weighs.of_entry l) q = cc
+      go (Weighs.not_in_use p h) q = cc
+      go (Weighs.not_weight p h n) q = cc
       go (Weighs.weighs p h {g = k} i) q = let y : k ≡ g = cc in (p, h, rw y at i)
 
 -- "and compares them" ([9]): 1, 2, 3 and 14, each exactly on its condition, and else what the one number of grams is beside the other

@@ -1,12 +1,13 @@
 -- Digits put into a list one after another, lowest first, and the digits that are still to come. Assumes nothing.
-use Prim.Native.Nat.{ℕ, zero, suc, ◌+◌, ◌≤◌, ◌<◌}
+use Prim.Native.Nat.{ℕ, ◌+◌, ◌≤◌, ◌<◌}
 use mathlib.Core.Path.{◌≡◌, refl, sym, ap, ◌∙◌}
 use mathlib.Core.List.{List, [], ◌∷◌, ◌++◌, append_assoc}
 use mathlib.Core.Option.{Option, none, some}
 use native.Mathlib.Omega.{arith}
 use native.Mathlib.Numerals.{add-one}
-use lib.ListN.{length, get_or, take, set, replicate, length-set}
+use lib.ListN.{length, take, set, replicate, length-set}
 use lib.Seq.{take-suc-set}
+use Rattle.std.proofs.lemmas.Grind.{common_steps}
 use Rattle.weights.specs.Digits.{before}
 use Rattle.weights.specs.Claims.{Decimal, NineDigits}
 
@@ -30,20 +31,11 @@ after_put l i d h none = refl
 after_put l i d h (some m) = ap some (sym (append_assoc (take i l) (d ∷ []) m) ∙ ap (λ (k : List ℕ). k ++ m) (sym (put_at l i d h)))
 
 set_decimal : (l : List ℕ) (i d : ℕ) → Decimal l → d ≤ 9 → Decimal (set l i d)
-set_decimal [] i d h k j = h j
-set_decimal (x ∷ l) zero d h k zero = k
-set_decimal (x ∷ l) zero d h k (suc j) = h (suc j)
-set_decimal (x ∷ l) (suc i) d h k zero = h 0
-set_decimal (x ∷ l) (suc i) d h k (suc j) = set_decimal l i d (λ i. h (suc i)) k j
+set_decimal l i d h k j = grind (arith, common_steps, h j)
 
 -- nine digits before any is put
-zero_at : (n i : ℕ) → get_or (replicate n 0) i 0 ≤ 9
-zero_at zero i = omega arith
-zero_at (suc n) zero = omega arith
-zero_at (suc n) (suc i) = zero_at n i
-
 pub nine_zeros : NineDigits (replicate 9 0)
-nine_zeros = record { nine = refl; decimal = zero_at 9 }
+nine_zeros = record { nine = refl; decimal = λ i. grind (arith, common_steps) }
 
 pub put_nine : {l : List ℕ} (i d : ℕ) → NineDigits l → d ≤ 9 → NineDigits (set l i d)
 put_nine {l} i d n k = record { nine = length-set l i d ∙ n.nine; decimal = set_decimal l i d n.decimal k }

@@ -11,7 +11,6 @@ use borrow.Author.Tests.{le-leb, lt-leb, leb-true}
 use Rattle.calculus.specs.Tree.{Tree, leaf, stem, fork, size}
 use Rattle.calculus.specs.Uses.{one_stem}
 use Rattle.calculus.specs.Rules.{Apply, by_stem}
-use Rattle.table.proofs.Words.{zero_one}
 use Rattle.weights.specs.Digits.{digit_tree, list_tree, digit_after, digit_of, before, digits_in}
 use Rattle.weights.specs.Claims.{Decimal}
 
@@ -33,11 +32,11 @@ digit_after_lem d leaf {n} e = go (leb d 9) refl e
   where
     go : (z : Bool) → leb d 9 ≡ z → cond z (some d) none ≡ some n → Digit d leaf n
     go true p e = let q : d ≡ n = cc in record { more = 0; tree = refl; number = omega arith; decimal = omega (arith, leb-true d 9 p) }
-    go false p e = zero_one (cc)
-digit_after_lem d (stem p) e = zero_one (cc)
+    go false p e = cc
+digit_after_lem d (stem p) e = cc
 digit_after_lem d (fork leaf q) e = let r = digit_after_lem (d + 1) q e in record { more = suc r.more; tree = ap (fork leaf) r.tree; number = omega (arith, r.number); decimal = r.decimal }
-digit_after_lem d (fork (stem p) q) e = zero_one (cc)
-digit_after_lem d (fork (fork p r) q) e = zero_one (cc)
+digit_after_lem d (fork (stem p) q) e = cc
+digit_after_lem d (fork (fork p r) q) e = cc
 
 after_digit : (k d : ℕ) → d + k ≤ 9 → digit_after d (digit_tree k) ≡ some (d + k)
 unfolding digit_after digit_tree
@@ -88,15 +87,15 @@ one_more {n} {d} {p} {q} {l} h r e = subst (IsList (suc n) (fork p q)) e (record
 pub list_only : (n : ℕ) (t : Tree) {l : List ℕ} → digits_in n t ≡ some l → IsList n t l
 unfolding digits_in before
 list_only zero leaf e = no_items (cc)
-list_only zero (stem p) e = zero_one (cc)
-list_only zero (fork p q) e = zero_one (cc)
-list_only (suc n) leaf e = zero_one (cc)
-list_only (suc n) (stem p) e = zero_one (cc)
+list_only zero (stem p) e = cc
+list_only zero (fork p q) e = cc
+list_only (suc n) leaf e = cc
+list_only (suc n) (stem p) e = cc
 list_only (suc n) (fork p q) {l = m} e = go (digit_of p) (digits_in n q) refl refl e (λ l k. list_only n q k)
   where
     go : (a : Option ℕ) (b : Option (List ℕ)) → digit_of p ≡ a → digits_in n q ≡ b → before a b ≡ some m → ((l : List ℕ) → digits_in n q ≡ some l → IsList n q l) → IsList (suc n) (fork p q) m
-    go none b x y k r = zero_one (cc)
-    go (some d) none x y k r = zero_one (cc)
+    go none b x y k r = cc
+    go (some d) none x y k r = cc
     go (some d) (some l) x y k r = one_more (digit_only p x) (r l y) (cc)
 
 -- a list's tree has a node for itself and at most twenty for each digit

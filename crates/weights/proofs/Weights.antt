@@ -9,7 +9,6 @@ use lib.ListN.{length}
 use Rattle.std.specs.Ordering.{nat_cmp}
 use borrow.Author.Tests.{le-leb, lt-leb}
 use Rattle.calculus.specs.Tree.{Tree, size}
-use Rattle.table.proofs.Words.{zero_one}
 use Rattle.weights.specs.Digits.{list_tree, grams_of, digits_of, weight_tree, gram_digits, digits_in, digits_of_weight, sum_digits, compare_digits}
 use Rattle.weights.specs.Claims.{NineDigits, IsWeight}
 use Rattle.weights.proofs.Numbers.{tens, grams_below, digits_back, grams_back, digits_many, digits_decimal, adds, adds_above, compares}
@@ -60,7 +59,7 @@ one_weight {x} {y} {g} i j = ((weight_exactly x g).0 i).1 ∙ sym ((weight_exact
 
 -- no digits are read exactly where a tree is not a weight
 pub no_weight : (x : Tree) → (digits_of_weight x ≡ none) ↔ ((g : ℕ) → IsWeight x g → ⊥)
-no_weight x = (λ e g i. zero_one (cc (weight_digits i)), λ n. go (digits_of_weight x) refl n)
+no_weight x = (λ e g i. cc (weight_digits i), λ n. go (digits_of_weight x) refl n)
   where
     go : (o : Option (List ℕ)) → digits_of_weight x ≡ o → ((g : ℕ) → IsWeight x g → ⊥) → o ≡ none
     go none e n = refl
