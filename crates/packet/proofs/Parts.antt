@@ -168,6 +168,11 @@ packet_parts l k n m e = short (leb (length l) 16384) refl
     short true f = found (leb-true (length l) 16384 f) (leb (end_at l 0) (length l)) refl
     short false f = no (packet_long l (leb-false (length l) 16384 f))
 
+-- a label's field of m bytes is within the packet and ends with it
+pub label_in : (l : List ℕ) {x : code.Option ℕ} {m : ℕ} → x ≡ code.Some m → LabelStands l x → (m ≤ length l) × (end_at l (length l - m) ≡ length l)
+unfolding LabelStands
+label_in l e h = rw e at h
+
 -- the next of k fields, i of which are passed
 pub record Next (l : List ℕ) (at k i : ℕ) : Type 0 where
   pub stands : end_at l at ≤ length l
