@@ -2,38 +2,22 @@
 use Prim.Native.Nat.{ℕ, ◌+◌, ◌-◌, ◌≤◌, ◌<◌}
 use mathlib.Core.Path.{◌≡◌, refl}
 use mathlib.Core.Bool.{Bool, true, false, ◌&&◌}
+use Rattle.std.proofs.Common as code
+use Rattle.std.proofs.Common.{not}
+use Rattle.calculus.specs.Term.{Term}
 use mathlib.Core.List.{List, [], ◌∷◌, ◌++◌}
 use mathlib.Core.Option.{Option, none, some}
 use native.Mathlib.Omega.{arith}
 use lib.ListN.{length}
-use lib.Dec.{leb}
-use borrow.Author.Tests.{lt-leb, le-leb}
 use Rattle.calculus.specs.Tree.{Tree}
 use Rattle.calculus.specs.Bytes.{rule}
 use Rattle.table.specs.declared.Refusal.TheVariants as refusal
 use Rattle.ternary.specs.Read.{readable, is_some}
 use Rattle.table.proofs.Words.{zero_one}
 use Rattle.rule_size.specs.Weight.{size_of}
-use Rattle.rule_size.proofs.Sizes.{no_rule, sized}
 use Rattle.packet.specs.Code.{end_at, value_at, Stand, values_at, label_at}
-use Rattle.packet.proofs.Parts.{next_field, label_at_lem}
-use Rattle.running.specs.Run.{all_readable, label_texts, parts_lack, lengths_fit}
-
--- ---- lengths
-
-module _ (w s o : List ℕ) where
-  pub long_table : 131072 < length w → false ≡ lengths_fit w s o
-  unfolding lengths_fit
-  long_table h = rw (lt-leb (length w) 131072 h)
-
-  module _ (h : length w ≤ 131072) where
-    pub long_stack : 65536 < length s → false ≡ lengths_fit w s o
-    unfolding lengths_fit
-    long_stack i = rw (le-leb (length w) 131072 h, lt-leb (length s) 65536 i)
-
-    pub out_fits : length s ≤ 65536 → leb (length o) 65535 ≡ lengths_fit w s o
-    unfolding lengths_fit
-    out_fits i = rw (le-leb (length w) 131072 h, le-leb (length s) 65536 i)
+use Rattle.packet.proofs.Parts.{next_field}
+use Rattle.running.specs.Run.{all_readable, label_texts, parts_lack}
 
 -- ---- texts
 
@@ -62,13 +46,14 @@ module _ (l : List ℕ) (at count i : ℕ) where
         go (some t) p = zero_one (cc (rw p at e))
 
 -- the label's text
-pub no_label_text : (l : List ℕ) (m : ℕ) → m ≡ 0 → true ≡ all_readable (label_texts (label_at l m))
+pub no_label_text : (l : List ℕ) {m : code.Option ℕ} → m ≡ code.None → true ≡ all_readable (label_texts (label_at l m))
 unfolding all_readable label_texts label_at
-no_label_text l m e = rw e
+no_label_text l e = rw e
 
-pub label_text_is : (l : List ℕ) (m : ℕ) → (m ≡ 0 → ⊥) → {b : Bool} → b ≡ is_some (readable (value_at l (length l - m))) → b ≡ all_readable (label_texts (label_at l m))
-unfolding all_readable label_texts is_some
-label_text_is l m n {b} e = rw (label_at_lem l m n) (go (is_some (readable (value_at l (length l - m)))) e)
+pub label_text_is : (l : List ℕ) {m : code.Option ℕ} {n : ℕ} → m ≡ code.Some n → {b : Bool} → b ≡ is_some (readable (value_at l (length l - n)))
+    → b ≡ all_readable (label_texts (label_at l m))
+unfolding all_readable label_texts label_at is_some
+label_text_is l {n = n} q {b} e = rw q (go (is_some (readable (value_at l (length l - n)))) e)
   where
     go : (x : Bool) → b ≡ x → b ≡ (x && true)
     go true p = p
@@ -85,21 +70,30 @@ texts_append (l ∷ vs) bs = rw (texts_append vs bs) (go (is_some (readable l)) 
     go true y z = refl
     go false y z = refl
 
-module _ (l : List ℕ) (vs bs : List (List ℕ)) {n : ℕ} (e : n ≡ size_of (rule (value_at l 0))) where
-  pub rule_none : n ≡ 0 → some refusal.Rule ≡ parts_lack (value_at l 0) (vs ++ bs)
-  unfolding parts_lack
-  rule_none z = rw (no_rule (value_at l 0) e z)
+-- the size of a rule's tree is there where the bytes are a rule
+pub rule_is : (b : List ℕ) {n : code.Option ℕ} → n ≡ size_of (rule b) → is_some (rule b) ≡ code.is_some n
+unfolding size_of is_some
+rule_is b e = go (rule b) e
+  where
+    go : (r : Option Term) {n : code.Option ℕ} → n ≡ size_of r → is_some r ≡ code.is_some n
+    go none p = rw p
+    go (some t) p = rw p
 
-  module _ (z : n ≡ 0 → ⊥) {a : Bool} (f : a ≡ all_readable vs) where
+module _ (l : List ℕ) (vs bs : List (List ℕ)) {n : Bool} (e : is_some (rule (value_at l 0)) ≡ not n) where
+  pub rule_none : n ≡ true → some refusal.Rule ≡ parts_lack (value_at l 0) (vs ++ bs)
+  unfolding parts_lack
+  rule_none z = rw (e, z)
+
+  module _ (z : n ≡ false) {a : Bool} (f : a ≡ all_readable vs) where
     pub text_none : a ≡ false → some refusal.Text ≡ parts_lack (value_at l 0) (vs ++ bs)
     unfolding parts_lack
-    text_none q = rw ((sized (value_at l 0) e z).is_rule, texts_append vs bs, ← f, q)
+    text_none q = rw (e, z, texts_append vs bs, ← f, q)
 
     module _ (g : a ≡ true) {b : Bool} (h : b ≡ all_readable bs) where
       pub label_none : b ≡ false → some refusal.Text ≡ parts_lack (value_at l 0) (vs ++ bs)
       unfolding parts_lack
-      label_none q = rw ((sized (value_at l 0) e z).is_rule, texts_append vs bs, ← f, g, ← h, q)
+      label_none q = rw (e, z, texts_append vs bs, ← f, g, ← h, q)
 
       pub all_checked : b ≡ true → none ≡ parts_lack (value_at l 0) (vs ++ bs)
       unfolding parts_lack
-      all_checked q = rw ((sized (value_at l 0) e z).is_rule, texts_append vs bs, ← f, g, ← h, q)
+      all_checked q = rw (e, z, texts_append vs bs, ← f, g, ← h, q)

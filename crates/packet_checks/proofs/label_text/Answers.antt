@@ -1,26 +1,20 @@
 -- `packet_checks::label_text` meets its contract. Assumes nothing.
 use native.Mathlib.Omega.{arith}
-use Rattle.packet.proofs.Parts.{part_value}
+use Rattle.packet.proofs.Parts.{label_in, part_value}
 use Rattle.packet_checks.proofs.Ways.{no_label_text, label_text_is}
 use Rattle.packet_checks.proofs.label_text.Goals as goal
 
-pub returns-then-size-eq0 : goal.returns-then-size-eq0
-returns-then-size-eq0 c = no_label_text c.args.packet.now c.args.size c.if-size-eq0.true
+pub returns-in_default : goal.returns-in_default
+returns-in_default c = no_label_text c.args.packet.now c.in_default.is
 
 pub overflow_sub-packet : goal.overflow_sub-packet
-overflow_sub-packet c = (c.requires c.if-size-eq0.false).0
+overflow_sub-packet c = (label_in c.args.packet.now c.in-Some.is c.requires).0
 
-pub part_at-part-requires : goal.part_at-part-requires
-part_at-part-requires c = let h = c.requires c.if-size-eq0.false in omega (arith, h.1)
-
-pub slice_bounds-is_text-count : goal.slice_bounds-is_text-count
-slice_bounds-is_text-count c = rw c.part_at-part.ensures (omega arith)
-
-pub slice_bounds-is_text-start : goal.slice_bounds-is_text-start
-slice_bounds-is_text-start c = rw c.part_at-part.ensures (omega arith)
+pub part_at-start-requires : goal.part_at-start-requires
+part_at-start-requires c = let h = label_in c.args.packet.now c.in-Some.is c.requires in omega arith
 
 pub slice_bounds-is_text-end : goal.slice_bounds-is_text-end
-slice_bounds-is_text-end c = let h = c.requires c.if-size-eq0.false in rw c.part_at-part.ensures (omega (arith, h.1))
+slice_bounds-is_text-end c = let h = label_in c.args.packet.now c.in-Some.is c.requires in rw c.part_at-start.ensures (omega arith)
 
 pub returns : goal.returns
-returns c = label_text_is c.args.packet.now c.args.size c.if-size-eq0.false (rw (c.part_at-part.ensures, part_value) at c.is_text.ensures)
+returns c = label_text_is c.args.packet.now c.in-Some.is (rw (c.part_at-start.ensures, part_value) at c.is_text.ensures)
