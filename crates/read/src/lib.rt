@@ -5,87 +5,50 @@
 // and the work of the call stands beside the array: so a compiler gives them frames of their own, which the shorter tables then do not touch.
 #![tactic(auto)]
 
-ghost use Rattle.std.specs.Prelude.{◌≡◌, ◌≤◌, length};
+ghost use Rattle.std.specs.Prelude.{◌≡◌, ◌*◌, ◌/◌, ◌≤◌, length};
 ghost use Rattle.table.specs.Outcome.{whole};
 ghost use Rattle.ternary.specs.Read.{read};
 
-use checks::Checked;
 use table::{Made, Refusal};
 
-// In a table of at most 64 nodes.
-fn read_64(table: &mut [u32], used: usize, stack: &mut [u32], text: &[u8]) -> Made
-    requires { length table.old ≤ 128 }
+// With an index of N entries, of which two thirds are slots: for a table of at most N / 3 nodes.
+fn read_in<const N: usize>(
+    table: &mut [u32],
+    used: usize,
+    stack: &mut [u32],
+    text: &[u8],
+) -> Result<Made, Refusal>
+    requires { (3 ≤ N) × (N ≤ 196608) × (length table.old ≤ N / 3 * 2) }
     ensures { whole result table.new stack.new ≡ read table.old used stack.old text.now }
 {
-    let mut index = [0u16; 192];
-    let checked = checks::check_in(true, table, used, stack, &mut index, 128);
-    if let Checked::Refused(refusal) = checked {
-        return Made::Refused(refusal);
-    }
-    reader::read_text(table, used, stack, text, &mut index, 128)
-}
-
-// In a table of at most 1,024 nodes.
-fn read_1024(table: &mut [u32], used: usize, stack: &mut [u32], text: &[u8]) -> Made
-    requires { length table.old ≤ 2048 }
-    ensures { whole result table.new stack.new ≡ read table.old used stack.old text.now }
-{
-    let mut index = [0u16; 3072];
-    let checked = checks::check_in(true, table, used, stack, &mut index, 2048);
-    if let Checked::Refused(refusal) = checked {
-        return Made::Refused(refusal);
-    }
-    reader::read_text(table, used, stack, text, &mut index, 2048)
-}
-
-// In a table of at most 8,192 nodes.
-fn read_8192(table: &mut [u32], used: usize, stack: &mut [u32], text: &[u8]) -> Made
-    requires { length table.old ≤ 16384 }
-    ensures { whole result table.new stack.new ≡ read table.old used stack.old text.now }
-{
-    let mut index = [0u16; 24576];
-    let checked = checks::check_in(true, table, used, stack, &mut index, 16384);
-    if let Checked::Refused(refusal) = checked {
-        return Made::Refused(refusal);
-    }
-    reader::read_text(table, used, stack, text, &mut index, 16384)
-}
-
-// In a table of at most 65,536 nodes.
-fn read_65536(table: &mut [u32], used: usize, stack: &mut [u32], text: &[u8]) -> Made
-    requires { length table.old ≤ 131072 }
-    ensures { whole result table.new stack.new ≡ read table.old used stack.old text.now }
-{
-    let mut index = [0u16; 196608];
-    let checked = checks::check_in(true, table, used, stack, &mut index, 131072);
-    if let Checked::Refused(refusal) = checked {
-        return Made::Refused(refusal);
-    }
-    reader::read_text(table, used, stack, text, &mut index, 131072)
+    let slots = N / 3 * 2;
+    let mut index = [0u16; N];
+    checks::check_in(true, table, used, stack, &mut index, slots)?;
+    reader::read_text(table, used, stack, text, &mut index, slots)
 }
 
 // Reads a text into the table.
-pub fn read(table: &mut [u32], used: usize, stack: &mut [u32], text: &[u8]) -> Made
+pub fn read(table: &mut [u32], used: usize, stack: &mut [u32], text: &[u8]) -> Result<Made, Refusal>
     ensures { whole result table.new stack.new ≡ read table.old used stack.old text.now }
 {
     let n = table.len();
     if 131072 < n {
-        return Made::Refused(Refusal::Limits);
+        return Err(Refusal::Limits);
     }
     if n <= 128 {
-        return read_64(table, used, stack, text);
+        return read_in::<192>(table, used, stack, text);
     }
     if n / 2 < used {
-        return Made::Refused(Refusal::Limits);
+        return Err(Refusal::Limits);
     }
     if n <= 2048 {
-        return read_1024(table, used, stack, text);
+        return read_in::<3072>(table, used, stack, text);
     }
     if 65536 < stack.len() {
-        return Made::Refused(Refusal::Limits);
+        return Err(Refusal::Limits);
     }
     if n <= 16384 {
-        return read_8192(table, used, stack, text);
+        return read_in::<24576>(table, used, stack, text);
     }
-    read_65536(table, used, stack, text)
+    read_in::<196608>(table, used, stack, text)
 }
