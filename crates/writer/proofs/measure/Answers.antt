@@ -1,34 +1,30 @@
 -- `writer::measure` meets its contract. The loop's invariant: what is left of the digits leads to the same room. Assumes nothing.
-use mathlib.Core.Path.{◌∙◌}
-use Rattle.writer.proofs.Passes.{walks_begin, walks_more, walks_less, walks_end, walks_out, walks_full}
+use Rattle.std.proofs.lemmas.Result.{err_from_is_err_and}
+use Rattle.writer.proofs.Passes.{walks_begin, stands_some, walks_more, walks_end, walks_out, walks_refused, spend_one, spend_none}
 use Rattle.writer.proofs.measure.Goals as goal
 
-pub loop-walk-init : goal.loop-walk-init
-loop-walk-init c = walks_begin _ _ _ _ _ c.requires.0 c.requires.1
+pub loop-next-init : goal.loop-next-init
+loop-next-init c = walks_begin _ _ _ _ _ c.requires.0 c.requires.1
 
-pub next_digit-d-requires : goal.next_digit-d-requires
-next_digit-d-requires c = (c.loop-walk.invariant.x, c.loop-walk.invariant.xs, c.loop-walk.invariant.stands)
+pub returns-in_err-left : goal.returns-in_err-left
+returns-in_err-left c =
+    let p = err_from_is_err_and c.from_residual.result c.from_residual.ensures.1 in
+    let n = spend_none _ _ c.checked_sub.ensures c.in_err-left.ensures.value in
+    rw (p.1, p.2, n.1) (walks_out (rw c.in-Some.is at c.loop-next.invariant) n.0)
 
-pub loop-walk-smaller : goal.loop-walk-smaller
-loop-walk-smaller c = walks_less c.loop-walk.invariant c.next_digit-d.new.stack c.next_digit-d.result c.next_digit-d.ensures c.in-More.is
+pub next_digit-requires : goal.next_digit-requires
+next_digit-requires c = stands_some (rw c.in-Some.is at c.loop-next.invariant)
 
-pub loop-walk-preserved : goal.loop-walk-preserved
-loop-walk-preserved c = walks_more c.loop-walk.invariant c.next_digit-d.new.stack c.next_digit-d.result c.next_digit-d.ensures c.in-More.is c.next_digit-d.auto.stack
+pub returns-in_err-digit : goal.returns-in_err-digit
+returns-in_err-digit c =
+    let p = err_from_is_err_and c.from_residual-in_err-digit.result c.from_residual-in_err-digit.ensures.1 in
+    let n = spend_one _ _ c.checked_sub.ensures c.in_ok-left.ensures.value in
+    rw (p.1, p.2) (walks_refused (rw c.in-Some.is at c.loop-next.invariant) c.next_digit.new.stack c.next_digit.ensures c.in_err-digit.was n)
 
-pub shape_of-stack-in-End : goal.shape_of-stack-in-End
-shape_of-stack-in-End c = c.next_digit-d.auto.stack ∙ c.loop-walk.invariant.same
+pub loop-next-preserved : goal.loop-next-preserved
+loop-next-preserved c =
+    let n = spend_one _ _ c.checked_sub.ensures c.in_ok-left.ensures.value in
+    walks_more (rw c.in-Some.is at c.loop-next.invariant) c.next_digit.new.stack c.next_digit.ensures c.in_ok-digit.was n c.next_digit.auto.stack
 
-pub returns-in-End : goal.returns-in-End
-returns-in-End c = walks_end c.loop-walk.invariant c.next_digit-d.new.stack c.next_digit-d.result c.next_digit-d.ensures c.in-End.is
-
-pub shape_of-stack-in-NoOut : goal.shape_of-stack-in-NoOut
-shape_of-stack-in-NoOut c = c.next_digit-d.auto.stack ∙ c.loop-walk.invariant.same
-
-pub returns-in-NoOut : goal.returns-in-NoOut
-returns-in-NoOut c = walks_out c.loop-walk.invariant c.next_digit-d.new.stack c.next_digit-d.result c.next_digit-d.ensures c.in-NoOut.is
-
-pub shape_of-stack-in-NoFrame : goal.shape_of-stack-in-NoFrame
-shape_of-stack-in-NoFrame c = c.next_digit-d.auto.stack ∙ c.loop-walk.invariant.same
-
-pub returns-in-NoFrame : goal.returns-in-NoFrame
-returns-in-NoFrame c = walks_full c.loop-walk.invariant c.next_digit-d.new.stack c.next_digit-d.result c.next_digit-d.ensures c.in-NoFrame.is
+pub returns : goal.returns
+returns c = walks_end (rw c.in_default.is at c.loop-next.invariant)

@@ -5,8 +5,8 @@ use Rattle.ternary.specs.Write.{digits}
 use Rattle.writer.proofs.Passes.{Walks}
 use Rattle.writer.proofs.measure.Given as goal
 
-abbrev pub invariant-loop-walk : goal.invariant-loop-walk
-invariant-loop-walk l = Walks l.table l.used l.initial.stack l.stack l.walk (digits (frames l.initial.stack) 0 (tree_at l.table l.node) l.room)
+abbrev pub invariant-loop-next : goal.invariant-loop-next
+invariant-loop-next l = Walks l.table l.used l.initial.stack l.stack l.next l.left (digits (frames l.initial.stack) 0 (tree_at l.table l.node) l.room)
 
-abbrev pub decreases-loop-walk : goal.decreases-loop-walk
-decreases-loop-walk l = l.walk.left
+abbrev pub decreases-loop-next : goal.decreases-loop-next
+decreases-loop-next l = l.left
