@@ -1,11 +1,12 @@
 -- Laws of what stands in a list from an index on. Assumes nothing.
-use Prim.Native.Nat.{ℕ, zero, suc, ◌+◌, ◌<◌, ◌≤◌}
+use Prim.Native.Nat.{ℕ, ◌+◌, ◌<◌, ◌≤◌}
 use mathlib.Core.Path.{◌≡◌, refl, sym, ap, ap₂, subst, ◌∙◌}
 use mathlib.Core.List.{List, [], ◌∷◌, ◌++◌, append_assoc}
-use native.Mathlib.Nat.{add-zero, zero-add, suc-add, add_assoc}
+use native.Mathlib.Nat.{add-zero, add_assoc}
 use native.Mathlib.Omega.{arith}
 use lib.ListN.{length, drop, take, set, get_or, length-append, length-drop, take-append-drop}
-use lib.Seq.{drop-drop, take-nil, take-take, get_or-drop, drop-set-lt, drop-append_seam, take-append_seam}
+use lib.Seq.{drop-drop, take-take, get_or-drop, drop-set-lt, drop-append_seam, take-append_seam}
+use Rattle.std.proofs.lemmas.List.{drop-take}
 use Rattle.bracket.specs.Words.{Holds}
 
 module _ (s : List ℕ) (p : ℕ) where
@@ -64,13 +65,8 @@ behind s xs p i x l h = drop-set-lt p s i x l ∙ h ∙ ap (λ (m : List ℕ). x
 pub fewer : (s s' : List ℕ) (w e : ℕ) → w ≤ e → take e s' ≡ take e s → take w s' ≡ take w s
 fewer s s' w e l h = sym (take-take w e s' l) ∙ ap (take w) h ∙ take-take w e s l
 
-drop_take : (p n : ℕ) (s : List ℕ) → drop p (take (p + n) s) ≡ take n (drop p s)
-drop_take zero n s = ap (λ (k : ℕ). take k s) (zero-add n)
-drop_take (suc p) n [] = ap (drop (suc p)) (take-nil (suc p + n)) ∙ sym (take-nil n)
-drop_take (suc p) n (x ∷ s) = ap (λ (k : ℕ). drop (suc p) (take k (x ∷ s))) (suc-add p n) ∙ drop_take p n s
-
 -- a run that ends before e stands in every list with the same words before e
 pub kept : (s s' xs : List ℕ) (p e : ℕ) → take e s' ≡ take e s → p + length xs ≤ e → Holds s p xs → Holds s' p xs
 kept s s' xs p e h l g =
     let n : ℕ = length xs in
-    read_there s' xs p (sym (drop_take p n s') ∙ ap (drop p) (fewer s s' (p + n) e l h) ∙ drop_take p n s ∙ part s xs p n g refl)
+    read_there s' xs p (sym (drop-take p n s') ∙ ap (drop p) (fewer s s' (p + n) e l h) ∙ drop-take p n s ∙ part s xs p n g refl)
