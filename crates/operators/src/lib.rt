@@ -9,8 +9,8 @@ ghost use Rattle.grammar.specs.Reader.{Unclosed};
 ghost use Rattle.table.specs.Wrote.{Wrote};
 ghost use Rattle.operators.specs.Code.{JointAt, Bangs, Begun, AfterAsks, Afters};
 
-// The postfix symbols, as `postfix` of the crate `grammar` has them. A variable's is its number more than the first.
-pub const APPLY: u16 = 0;
+// The postfix symbols, as `postfix` of the crate `grammar` has them. A variable's is so much more than its number.
+pub const APPLICATION: u16 = 0;
 
 pub const AND: u16 = 1;
 
@@ -24,7 +24,7 @@ pub const NOT: u16 = 5;
 
 pub const LEAF: u16 = 6;
 
-pub const FIRST_VARIABLE: u16 = 7;
+pub const VARIABLE: u16 = 7;
 
 // The words of signs: their bytes.
 pub const CARET: u64 = b'^' as u64;
@@ -155,7 +155,7 @@ pub fn after(
     ensures { (d : ℕ) (Γ : List ℕ) (p : Unclosed) (f : Option Expression) (a : Expression) (xs : List ℕ)
         → Afters d Γ p f a xs words.now at post.old from waiting result post.new }
 {
-    let applied = put(post, from, waiting.apps, APPLY);
+    let applied = put(post, from, waiting.apps, APPLICATION);
     Some(match joint_at(words, at)? {
         Joint::Operand => Step::More(Waiting {
             at,

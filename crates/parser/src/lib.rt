@@ -10,7 +10,7 @@ ghost use Rattle.grammar.specs.Words.{tokens};
 ghost use Rattle.parser.specs.Code.{place_of, IsName, IsBinder, RowAsks, Row, Asks, Tells, close_group};
 
 use operators::{
-    ABSTRACTION, AMPERSAND, ARROW, BACKSLASH, BANG, BAR, CARET, CLOSING, FIRST_VARIABLE, LEAF,
+    ABSTRACTION, AMPERSAND, ARROW, BACKSLASH, BANG, BAR, CARET, CLOSING, VARIABLE, LEAF,
     OPENING, STOP, Step,
 };
 
@@ -64,7 +64,7 @@ fn atom(
         return None;
     }
     let i = find(names, k, t)?;
-    post[w] = i as u16 + FIRST_VARIABLE;
+    post[w] = i as u16 + VARIABLE;
     Some(phrase)
 }
 

@@ -22,21 +22,19 @@ use Rattle.grammar.specs.Postfix.{total, abstractions}
 use Rattle.grammar.specs.Reader.{nothing, read, empty, parse}
 use Rattle.grammar.specs.Words.{tokens, token, lex}
 use Rattle.grammar.specs.Text.{all_read, of_words, read_text}
-use Rattle.grammar.specs.Outcome.{of_bytes, of_reading, rule_text}
-use Rattle.grammar.specs.declared.Encoded.{Encoded}
-use Rattle.grammar.specs.declared.Encoded.TheVariants.{Bytes, Refused}
+use Rattle.grammar.specs.Outcome.{Encoded, of_bytes, of_reading, rule_text}
 use Rattle.grammar.proofs.Exact.{bytes_no_rule}
 use Rattle.grammar.proofs.Sound.{sound}
 use Rattle.grammar.proofs.Text.{closed}
-use Rattle.parser.specs.Code.{Asks, Phrased}
+use Rattle.parser.specs.Code.{Phrased}
 use Rattle.encoder.specs.Code.{EncodeAt, EncodeGives}
 use Rattle.symbols.specs.Code.{Small, Nests}
 use Rattle.symbols.proofs.Symbols.{total_postfix}
 use Rattle.symbols.proofs.Counting.{nests_few}
 use Rattle.symbols.proofs.Symbols.{symbol, is_symbol, has_symbol}
 use Rattle.lexer.specs.Code.{Lexes}
-use Rattle.lexer.specs.declared.Lexed.{Lexed}
-use Rattle.lexer.specs.declared.Lexed.TheVariants.{Words, Broken}
+use Rattle.std.specs.Prelude as code
+use Rattle.std.specs.Prelude.{Result, Ok, Err}
 use Rattle.text_reader.specs.Code.{Stands, WordRoom, TextRoom}
 
 -- closed terms with few abstractions nested have small variables
@@ -91,21 +89,21 @@ module _ (e : Expression) (post : List ℕ) (end : ℕ) (q : Stands e post end) 
 
   -- 5: the term is no rule
   module _ (out : List ℕ) where
-    refuses : rule (bytes (term_of e)) ≡ none → Given e out (Refused Rule) out
+    refuses : rule (bytes (term_of e)) ≡ none → Given e out (Err Rule) out
     unfolding of_bytes
     refuses r = rw r
 
-    pub no_abs : (get_or post (end - 1) 0 ≡ 4 → ⊥) → Given e out (Refused Rule) out
+    pub no_abs : (get_or post (end - 1) 0 ≡ 4 → ⊥) → Given e out (Err Rule) out
     no_abs n = refuses (bytes_no_rule e (λ r. n (ends_symbol ∙ not_abs e r.body r.begins)))
 
   module _ (n : ℕ) (s : n ≡ total (take end post)) where
     counted : n ≡ length (bytes (term_of e))
     counted = s ∙ ap total q.stands ∙ total_postfix e
 
-    pub too_long : (out : List ℕ) → 4096 < n → Given e out (Refused Rule) out
+    pub too_long : (out : List ℕ) → 4096 < n → Given e out (Err Rule) out
     too_long out h = refuses out (bytes_no_rule e (λ r. omega (arith, r.short, counted)))
 
-    pub too_deep : (out : List ℕ) (z : Bool) → z ≡ leb (nesting (term_of e)) 16 → bool.not z ≡ true → Given e out (Refused Rule) out
+    pub too_deep : (out : List ℕ) (z : Bool) → z ≡ leb (nesting (term_of e)) 16 → bool.not z ≡ true → Given e out (Err Rule) out
     too_deep out z d n =
         let k = leb-false (nesting (term_of e)) 16 (sym d ∙ not-true z n) in
         refuses out (bytes_no_rule e (λ r. omega (arith, r.shallow, k)))
@@ -128,7 +126,7 @@ module _ (e : Expression) (post : List ℕ) (end : ℕ) (q : Stands e post end) 
             shallow = shallow;
           })
 
-      pub no_room : (out : List ℕ) → length out < n → Given e out (Refused Out) out
+      pub no_room : (out : List ℕ) → length out < n → Given e out (Err Out) out
       unfolding of_bytes into_out
       no_room out g = let k : length out < length (bytes (term_of e)) = omega (arith, counted) in rw (is_rule, lt-leb _ _ k)
 
@@ -141,7 +139,7 @@ module _ (e : Expression) (post : List ℕ) (end : ℕ) (q : Stands e post end) 
         small = small e 0 q.closed (omega (arith, shallow));
       }
 
-      pub encoded : (out : List ℕ) → n ≤ length out → (from at : ℕ) (w : List ℕ) → EncodeGives e [] out n from at w → Given e out (Bytes n) w
+      pub encoded : (out : List ℕ) → n ≤ length out → (from at : ℕ) (w : List ℕ) → EncodeGives e [] out n from at w → Given e out (Ok n) w
       unfolding of_bytes into_out
       encoded out g from at w x =
           let z : at ≡ 0 = omega (arith, x.laid.ends, counted) in
@@ -165,7 +163,7 @@ module _ (ws names post : List ℕ) (k : ℕ) (g : length names ≤ k) where
   no_names = drop_of_length-le names g
 
   pub words_none : parse 32 (drop k names) empty (tokens (drop 0 ws)) ≡ nothing → (out : List ℕ)
-      → whole_out (Refused RuleText) [] [] out ≡ of_reading (of_words (some ws)) out
+      → whole_out (Err RuleText) [] [] out ≡ of_reading (of_words (some ws)) out
   unfolding of_reading of_words all_read
   words_none h out =
       let z : parse 32 [] empty (tokens ws) ≡ nothing = subst (λ (Γ : List ℕ). parse 32 Γ empty (tokens ws) ≡ nothing) no_names h in
@@ -175,7 +173,7 @@ module _ (ws names post : List ℕ) (k : ℕ) (g : length names ≤ k) where
     reads : parse 32 [] empty (tokens ws) ≡ read o.e (tokens (drop next ws))
     reads = subst (λ (Γ : List ℕ). parse 32 Γ empty (tokens ws) ≡ read o.e (tokens (drop next ws))) no_names o.leads
 
-    pub words_more : next < length ws → (out : List ℕ) → whole_out (Refused RuleText) [] [] out ≡ of_reading (of_words (some ws)) out
+    pub words_more : next < length ws → (out : List ℕ) → whole_out (Err RuleText) [] [] out ≡ of_reading (of_words (some ws)) out
     unfolding of_reading of_words all_read tokens
     words_more h out =
         let z : tokens (drop next ws) ≡ token (get_or ws next 0) ∷ tokens (drop (suc next) ws) = ap tokens (drop-cons ws next 0 h) in
@@ -200,12 +198,8 @@ module _ (ws names post : List ℕ) (k : ℕ) (g : length names ≤ k) where
       unfolding of_reading of_words all_read
       words_given out q = rw all_words q
 
-pub words_asks : (ws names post : List ℕ) → WordRoom ws names post → Asks ws 0 names (length names) post 0
-words_asks ws names post h =
-    record { within = omega arith; few = h.few; space = h.space; room = omega arith; scope = omega (arith, h.names_enough); inside = omega arith; short = h.names_few }
-
 -- text
-pub text_broken : (l out : List ℕ) → length l ≤ 8192 → lex 0 0 l ≡ none → whole_out (Refused RuleText) [] [] out ≡ rule_text l out
+pub text_broken : (l out : List ℕ) → length l ≤ 8192 → lex 0 0 l ≡ none → whole_out (Err RuleText) [] [] out ≡ rule_text l out
 unfolding rule_text of_reading read_text of_words
 text_broken l out h e = rw (le-leb (length l) 8192 h, e)
 
@@ -213,11 +207,11 @@ pub text_read : (l out ws : List ℕ) {x : Outcome Encoded} → length l ≤ 819
 unfolding rule_text read_text
 text_read l out ws h e q = rw (le-leb (length l) 8192 h, e) q
 
-pub lexed_broken : (o : Option (List ℕ)) (n : ℕ) (ws : List ℕ) (r : Lexed) → Lexes o n ws r → r ≡ Broken → o ≡ none
+pub lexed_broken : (o : Option (List ℕ)) (n : ℕ) (ws : List ℕ) (r : code.Option ℕ) → Lexes o n ws r → r ≡ code.None → o ≡ none
 unfolding Lexes
 lexed_broken o n ws r h e = subst (Lexes o n ws) e h
 
-pub lexed_words : (o : Option (List ℕ)) (n : ℕ) (ws : List ℕ) (r : Lexed) (k : ℕ) → Lexes o n ws r → r ≡ Words k → (o ≡ some (take k ws)) × (k ≤ n) × (k ≤ length ws)
+pub lexed_words : (o : Option (List ℕ)) (n : ℕ) (ws : List ℕ) (r : code.Option ℕ) (k : ℕ) → Lexes o n ws r → r ≡ code.Some k → (o ≡ some (take k ws)) × (k ≤ n) × (k ≤ length ws)
 unfolding Lexes
 lexed_words o n ws r k h e = subst (Lexes o n ws) e h
 

@@ -14,16 +14,19 @@ ghost use Rattle.grammar.specs.Text.{of_words};
 ghost use Rattle.grammar.specs.Outcome.{of_bytes, of_reading, rule_text};
 ghost use Rattle.text_reader.specs.Code.{Stands, StandsSome, WordRoom, TextRoom};
 
-use grammar::Encoded;
-use lexer::Lexed;
-use parser::Parsed;
 use table::Refusal;
 
-// The postfix symbol of an abstraction, with which the symbols of a rule end.
-const ABSTRACTION: u16 = 4;
+// The symbols of a rule end with that of an abstraction.
+const LAST: u16 = operators::ABSTRACTION;
 
 // How many bytes a rule has at most.
 const MOST_BYTES: usize = 4096;
+
+// How many abstractions nest in a rule at most.
+const MOST_NESTED: usize = 16;
+
+// How deep parentheses nest in a rule text at most.
+const MOST_PARENTHESES: usize = 32;
 
 // Whether no more than 16 abstractions nest in the term whose symbols are the first `end`, so many of them abstractions. Where there are no more at
 // all, none need be followed.
@@ -31,50 +34,54 @@ fn is_shallow(post: &[u16], end: usize, count: usize) -> bool
     requires { StandsSome post.now end × (count ≡ abstractions (take end post.now)) }
     ensures { (e : Expression) → Stands e post.now end → result ≡ leb (nesting (term_of e)) 16 }
 {
-    if count <= 16 {
+    if count <= MOST_NESTED {
         return true;
     }
-    let nested = symbols::nesting(post, end);
-    nested.depth <= 16
+    symbols::nesting(post, end).depth <= MOST_NESTED
 }
 
 // The bytes of the term whose symbols are the first `end`: 5, then 10, then the bytes.
-fn give(post: &[u16], end: usize, out: &mut [u8]) -> Encoded
+fn give(post: &[u16], end: usize, out: &mut [u8]) -> Result<usize, Refusal>
     requires { StandsSome post.now end }
     ensures { (e : Expression) → Stands e post.now end
         → whole_out result [] [] out.new ≡ of_bytes (bytes (term_of e)) (rule (bytes (term_of e))) out.old }
 {
-    if post[end - 1] != ABSTRACTION {
-        return Encoded::Refused(Refusal::Rule);
+    if post[end - 1] != LAST {
+        return Err(Refusal::Rule);
     }
     let sizes = symbols::measure(post, end);
     let n = sizes.bytes;
     if MOST_BYTES < n {
-        return Encoded::Refused(Refusal::Rule);
+        return Err(Refusal::Rule);
     }
     if !is_shallow(post, end, sizes.abstractions) {
-        return Encoded::Refused(Refusal::Rule);
+        return Err(Refusal::Rule);
     }
     if out.len() < n {
-        return Encoded::Refused(Refusal::Out);
+        return Err(Refusal::Out);
     }
     encoder::encode(post, end, out, n);
-    Encoded::Bytes(n)
+    Ok(n)
 }
 
 // Reads words: 12 where they are no expression, or something follows one.
-fn read_words(words: &[u64], names: &mut [u64], post: &mut [u16], out: &mut [u8]) -> Encoded
+fn read_words(
+    words: &[u64],
+    names: &mut [u64],
+    post: &mut [u16],
+    out: &mut [u8],
+) -> Result<usize, Refusal>
     requires { WordRoom words.now names.old post.old }
     ensures { whole_out result [] [] out.new ≡ of_reading (of_words (some words.now)) out.old }
 {
     let k = names.len();
-    let Parsed::Phrase { next, end } = parser::expression(words, 0, 32, names, k, post, 0) else {
-        return Encoded::Refused(Refusal::RuleText);
-    };
-    if next < words.len() {
-        return Encoded::Refused(Refusal::RuleText);
+    let phrase = parser::expression(words, 0, MOST_PARENTHESES, names, k, post, 0).ok_or(
+        Refusal::RuleText,
+    )?;
+    if phrase.next < words.len() {
+        return Err(Refusal::RuleText);
     }
-    give(post, end, out)
+    give(post, phrase.end, out)
 }
 
 // Reads a text for which the arrays have room.
@@ -84,12 +91,10 @@ pub fn read_text(
     names: &mut [u64],
     post: &mut [u16],
     out: &mut [u8],
-) -> Encoded
+) -> Result<usize, Refusal>
     requires { TextRoom text.now words.old names.old post.old }
     ensures { whole_out result [] [] out.new ≡ rule_text text.now out.old }
 {
-    let Lexed::Words(n) = lexer::lex(text, words) else {
-        return Encoded::Refused(Refusal::RuleText);
-    };
+    let n = lexer::lex(text, words).ok_or(Refusal::RuleText)?;
     read_words(&words[..n], names, post, out)
 }
