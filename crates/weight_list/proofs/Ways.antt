@@ -9,7 +9,9 @@ use lib.ListN.{length, get_or, take, set, length-set}
 use lib.Seq.{take-suc, take_all}
 use Rattle.table.specs.Outcome.{whole, frames}
 use Rattle.table.specs.Wrote.{Wrote}
+use Rattle.std.specs.Prelude.{Result}
 use Rattle.table.specs.declared.Made.{Made}
+use Rattle.table.specs.declared.Refusal.{Refusal}
 use Rattle.table.proofs.Wrote.{wrote_none, wrote_one, wrote_then}
 use Rattle.ternary.specs.Text.{text}
 use Rattle.ternary.specs.Read.{read}
@@ -98,5 +100,5 @@ module _ {a b : List ℕ} (l : List ℕ) {e : ℕ} (i : ℕ) (n : length b ≡ l
 
 -- Read of the bytes that are written lays the list out
 pub laid_by_read : (w : List ℕ) (u : ℕ) (s : List ℕ) → length s ≤ 65536 → 3 ≤ frames s → {l : List ℕ} → NineDigits l → {a b : List ℕ} {n : ℕ} → Wrote a 0 (text (list_tree l)) n b
-    → {r : Made} {z y : List ℕ} → whole r z y ≡ read w u s (take n b) → whole r z [] ≡ checked_digits w u (some l)
+    → {r : Result Made Refusal} {z y : List ℕ} → whole r z y ≡ read w u s (take n b) → whole r z [] ≡ checked_digits w u (some l)
 laid_by_read w u s k f n h e = ap no_stack e ∙ ap (λ (t : List ℕ). no_stack (read w u s t)) h.front ∙ list_as_read w u s k f n

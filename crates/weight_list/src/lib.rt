@@ -9,9 +9,9 @@ ghost use Rattle.table.specs.Wrote.{Wrote};
 ghost use Rattle.ternary.specs.Text.{text};
 ghost use Rattle.weights.specs.Digits.{digit_tree, list_tree};
 ghost use Rattle.weights.specs.Weights.{checked_digits};
-ghost use Rattle.weights.specs.Claims.{NineDigits};
 
-use table::Made;
+use table::{Made, Refusal};
+use weights::Digits;
 
 // Writes what a list's text begins with before its rest: the digit 2, and the text of the first item.
 fn put_item(bytes: &mut [u8], at: usize, d: usize) -> usize
@@ -20,40 +20,35 @@ fn put_item(bytes: &mut [u8], at: usize, d: usize) -> usize
 {
     bytes[at] = b'2';
     let mut end = at + 1;
-    let mut i = 0;
-    while i < d {
+    for _ in 0..d {
         bytes[end] = b'2';
         bytes[end + 1] = b'0';
         end += 2;
-        i += 1;
     }
     bytes[end] = b'0';
     end + 1
 }
 
 // Writes the text of the list of nine digits.
-fn put_list(bytes: &mut [u8], digits: [usize; 9]) -> usize
-    requires { NineDigits digits × (length bytes.old ≡ 181) }
-    ensures { Wrote bytes.old 0 (text (list_tree digits)) result bytes.new }
+fn put_list(bytes: &mut [u8], weight: Digits) -> usize
+    requires { length bytes.old ≡ 181 }
+    ensures { Wrote bytes.old 0 (text (list_tree weight.digits)) result bytes.new }
 {
     let mut at: usize = 0;
-    let mut i = 0;
-    while i < 9 {
-        let d = digits[i];
+    for d in weight.digits {
         at = put_item(bytes, at, d);
-        i += 1;
     }
     bytes[at] = b'0';
     at + 1
 }
 
 // Lays the list of nine digits out: 1 and 2, then its nodes with 8.
-pub fn lay_digits(table: &mut [u32], used: usize, digits: [usize; 9]) -> Made
-    requires { NineDigits digits }
-    ensures { whole result table.new [] ≡ checked_digits table.old used (some digits) }
+pub fn lay_digits(table: &mut [u32], used: usize, weight: Digits) -> Result<Made, Refusal>
+    ensures { whole result table.new [] ≡ checked_digits table.old used (some weight.digits) }
 {
+    // An array and a count: no heap is used.
     let mut bytes = [0u8; 181];
-    let n = put_list(&mut bytes, digits);
+    let n = put_list(&mut bytes, weight);
     let mut stack = [0u32; 9];
     read::read(table, used, &mut stack, &bytes[..n])
 }
