@@ -6,106 +6,81 @@ ghost use Rattle.std.specs.Prelude.{◌≡◌, true, []};
 ghost use Rattle.table.specs.Nodes.{tree_at};
 ghost use Rattle.table.specs.Branches.{InUse};
 ghost use Rattle.table.specs.Outcome.{whole, at_entry, unless};
-ghost use Rattle.table.specs.declared.Made.TheVariants as made;
 ghost use Rattle.weights.specs.Digits.{digits_of, digits_of_weight, add_digits, sum_digits};
 ghost use Rattle.weights.specs.Weights as weighing;
-ghost use Rattle.weights.specs.Claims.{NineDigits};
 ghost use Rattle.weight_digits.specs.Code.{digits_by};
 
-use checks::Checked;
 use table::{Made, Refusal};
-use weight_digits::Digits;
+use weights::Digits;
 
 // The lowest nine digits of a number.
-fn digits_of(grams: usize) -> [usize; 9]
-    ensures { result ≡ digits_of 9 grams }
+fn digits_of(grams: usize) -> Digits
+    ensures { result.digits ≡ digits_of 9 grams }
 {
     let mut digits = [0usize; 9];
     let mut rest = grams;
-    let mut i = 0;
-    while i < 9 {
-        digits[i] = rest % 10;
+    for d in &mut digits {
+        *d = rest % 10;
         rest /= 10;
-        i += 1;
     }
-    digits
+    Digits { digits }
 }
 
-// The digits of the sum of two lists of nine digits; they are none where a carry is left.
-fn add_digits(a: [usize; 9], b: [usize; 9]) -> Digits
-    requires { NineDigits a × NineDigits b }
-    ensures { NineDigits result.digits × (digits_by result.found result.digits ≡ add_digits a b 0) }
+// The digits of the sum of two weights, or none where a carry is left.
+fn add_digits(a: Digits, b: Digits) -> Option<Digits>
+    ensures { digits_by result ≡ add_digits a.digits b.digits 0 }
 {
-    let mut sum = [0usize; 9];
+    let mut digits = [0usize; 9];
     let mut carry: usize = 0;
-    let mut i = 0;
-    while i < 9 {
-        let s = carry + a[i] + b[i];
-        sum[i] = s % 10;
-        carry = s / 10;
-        i += 1;
+    for i in 0..9 {
+        let sum = carry + a.digits[i] + b.digits[i];
+        digits[i] = sum % 10;
+        carry = sum / 10;
     }
-    Digits {
-        found: carry == 0,
-        digits: sum,
+    if carry == 0 {
+        Some(Digits { digits })
+    } else {
+        None
     }
 }
 
 // The digits of the sum of the weights at two nodes.
-fn read_sum(table: &[u32], a: usize, b: usize) -> Digits
-    ensures { (result.found ≡ true → NineDigits result.digits) × (InUse table.now a → InUse table.now b
-        → digits_by result.found result.digits ≡ sum_digits (digits_of_weight (tree_at table.now a)) (digits_of_weight (tree_at table.now b))) }
+fn read_sum(table: &[u32], a: usize, b: usize) -> Option<Digits>
+    ensures { InUse table.now a → InUse table.now b
+        → digits_by result ≡ sum_digits (digits_of_weight (tree_at table.now a)) (digits_of_weight (tree_at table.now b)) }
 {
-    let first = weight_digits::read_digits(table, a);
-    let x = first.digits;
-    if !first.found {
-        return first;
-    }
-    let second = weight_digits::read_digits(table, b);
-    let y = second.digits;
-    if !second.found {
-        return second;
-    }
-    add_digits(x, y)
+    let first = weight_digits::read_digits(table, a)?;
+    let second = weight_digits::read_digits(table, b)?;
+    add_digits(first, second)
 }
 
 // Refused with 1 or 2, else with the refusal that is given.
-fn refuse(table: &[u32], used: usize, last: Refusal) -> Made
-    ensures { result ≡ unless (at_entry true table.now used []) made.Refused (made.Refused last) }
+fn refuse(table: &[u32], used: usize, last: Refusal) -> Result<Made, Refusal>
+    ensures { result ≡ unless (at_entry true table.now used []) Err (Err last) }
 {
-    let none: [u32; 0] = [];
-    let checked = entry_check::check(true, table, used, &none);
-    if let Checked::Refused(e) = checked {
-        return Made::Refused(e);
-    }
-    Made::Refused(last)
+    entry_check::check(true, table, used, &[])?;
+    Err(last)
 }
 
 // The weight of a number of grams: 1, 2, 14 above the top, then 8.
-pub fn weight(table: &mut [u32], used: usize, grams: usize) -> Made
+pub fn weight(table: &mut [u32], used: usize, grams: usize) -> Result<Made, Refusal>
     ensures { whole result table.new [] ≡ weighing.weight table.old used grams }
 {
     if 999999999 < grams {
         return refuse(table, used, Refusal::Weight);
     }
-    let digits = digits_of(grams);
-    weight_list::lay_digits(table, used, digits)
+    weight_list::lay_digits(table, used, digits_of(grams))
 }
 
 // The sum of the weights at two nodes: 1, 2, 3 for either, 14 where one is not a weight or the sum is above the top, then 8.
-pub fn add_weights(table: &mut [u32], used: usize, a: usize, b: usize) -> Made
+pub fn add_weights(table: &mut [u32], used: usize, a: usize, b: usize) -> Result<Made, Refusal>
     ensures { whole result table.new [] ≡ weighing.add_weights table.old used a b }
 {
-    if used <= a {
+    if used <= a || used <= b {
         return refuse(table, used, Refusal::Node);
     }
-    if used <= b {
-        return refuse(table, used, Refusal::Node);
+    match read_sum(table, a, b) {
+        Some(sum) => weight_list::lay_digits(table, used, sum),
+        None => refuse(table, used, Refusal::Weight),
     }
-    let sum = read_sum(table, a, b);
-    let digits = sum.digits;
-    if !sum.found {
-        return refuse(table, used, Refusal::Weight);
-    }
-    weight_list::lay_digits(table, used, digits)
 }

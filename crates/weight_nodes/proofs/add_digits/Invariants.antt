@@ -1,6 +1,6 @@
 -- `weight_nodes::add_digits` meets its contract. The loop's invariant: the digits of the sum are those that are made and then those of the digits after them
 -- and the carry. Assumes nothing.
-use Prim.Native.Nat.{◌-◌, ◌≤◌}
+use Prim.Native.Nat.{◌≤◌}
 use mathlib.Core.Path.{◌≡◌}
 use lib.ListN.{take, drop}
 use Rattle.weights.specs.Digits.{add_digits}
@@ -9,7 +9,8 @@ use Rattle.weights.proofs.Places.{after}
 use Rattle.weight_nodes.proofs.add_digits.Given as goal
 
 abbrev pub invariant-loop-i : goal.invariant-loop-i
-invariant-loop-i l = (l.i ≤ 9) × (l.carry ≤ 1) × NineDigits l.sum × (add_digits l.a l.b 0 ≡ after (take l.i l.sum) (add_digits (drop l.i l.a) (drop l.i l.b) l.carry))
-
-abbrev pub decreases-loop-i : goal.decreases-loop-i
-decreases-loop-i l = 9 - l.i
+invariant-loop-i l = record {
+  carry : l.carry ≤ 1;
+  nine : NineDigits l.digits;
+  sum : add_digits l.a.digits l.b.digits 0 ≡ after (take l.i l.digits) (add_digits (drop l.i l.a.digits) (drop l.i l.b.digits) l.carry);
+}

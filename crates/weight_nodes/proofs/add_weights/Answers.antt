@@ -1,25 +1,17 @@
 -- `weight_nodes::add_weights` meets its contract: 3 for either node, 14, or the sum laid out. Assumes nothing.
 use mathlib.Core.Path.{◌∙◌}
 use native.Mathlib.Omega.{arith}
-use borrow.Author.Tests.{not-true, not-false}
-use Rattle.weight_nodes.proofs.Ways.{no_node, no_sum, sum_laid}
+use Rattle.std.specs.Prelude.{Some, None}
+use Rattle.weight_nodes.proofs.Ways.{no_node, refused_digits, sum_checked}
 use Rattle.weight_nodes.proofs.add_weights.Goals as goal
 
 pub returns-then-used-a : goal.returns-then-used-a
-returns-then-used-a c = no_node c.args.table.now c.args.used (λ h k. omega arith) c.refuse.ensures
+returns-then-used-a c = no_node c.args.table.now c.args.used (λ h k. grind arith) c.refuse.ensures
 
-pub returns-then-used-b : goal.returns-then-used-b
-returns-then-used-b c = no_node c.args.table.now c.args.used (λ h k. omega arith) c.refuse-then-used-b.ensures
+pub returns-in-Some : goal.returns-in-Some
+returns-in-Some c = c.lay_digits.ensures ∙ sum_checked c.args.table.now c.args.used c.if-used-a.false c.if-used-b.false (Some c.in-Some.sum) c.in-Some.ensures
 
-pub returns-then-not-sum : goal.returns-then-not-sum
-returns-then-not-sum c =
-    let s = c.read_sum-sum in
-    no_sum c.args.table.now c.args.used c.if-used-a.false c.if-used-b.false _ s.result.digits s.ensures.1 (not-true _ c.if-not-sum.true) c.refuse-then-not-sum.ensures
-
-pub lay_digits-requires : goal.lay_digits-requires
-lay_digits-requires c = c.read_sum-sum.ensures.0 (not-false _ c.if-not-sum.false)
-
-pub returns : goal.returns
-returns c =
-    let s = c.read_sum-sum in
-    c.lay_digits.ensures ∙ sum_laid c.args.table.now c.args.used c.if-used-a.false c.if-used-b.false _ s.result.digits s.ensures.1 (not-false _ c.if-not-sum.false)
+pub returns-in-None : goal.returns-in-None
+returns-in-None c =
+    let a = c.args in
+    refused_digits a.table.now a.used c.refuse-in-None.ensures ∙ sum_checked a.table.now a.used c.if-used-a.false c.if-used-b.false None c.in-None.ensures

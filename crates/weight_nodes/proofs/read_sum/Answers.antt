@@ -1,27 +1,13 @@
 -- `weight_nodes::read_sum` meets its contract, by what is read of each weight. Assumes nothing.
 use mathlib.Core.Path.{◌∙◌}
-use borrow.Author.Tests.{not-true, not-false}
 use Rattle.weight_nodes.proofs.Ways.{no_first_digits, no_second_digits, both_digits}
 use Rattle.weight_nodes.proofs.read_sum.Goals as goal
 
-pub returns-then-not-first : goal.returns-then-not-first
-returns-then-not-first c =
-    let f = c.read_digits-first in
-    (f.ensures.0, λ i j. no_first_digits f.result.digits _ (not-true _ c.if-not-first.true) (f.ensures.1 i))
+pub returns-in_err-first : goal.returns-in_err-first
+returns-in_err-first c = λ i j. rw c.from_residual.ensures (no_first_digits _ (c.in_err-first.ensures i))
 
-pub returns-then-not-second : goal.returns-then-not-second
-returns-then-not-second c =
-    let f = c.read_digits-first in
-    let s = c.read_digits-second in
-    (s.ensures.0, λ i j. no_second_digits f.result.digits s.result.digits (not-false _ c.if-not-first.false) (f.ensures.1 i) (not-true _ c.if-not-second.true) (s.ensures.1 j))
-
-pub add_digits-requires : goal.add_digits-requires
-add_digits-requires c =
-    (c.read_digits-first.ensures.0 (not-false _ c.if-not-first.false), c.read_digits-second.ensures.0 (not-false _ c.if-not-second.false))
+pub returns-in_err-second : goal.returns-in_err-second
+returns-in_err-second c = λ i j. rw c.from_residual-in_err-second.ensures (no_second_digits (c.in_ok-first.ensures i) (c.in_err-second.ensures j))
 
 pub returns : goal.returns
-returns c =
-    let f = c.read_digits-first in
-    let s = c.read_digits-second in
-    let a = c.add_digits.ensures in
-    (λ e. a.0, λ i j. a.1 ∙ both_digits f.result.digits s.result.digits (not-false _ c.if-not-first.false) (f.ensures.1 i) (not-false _ c.if-not-second.false) (s.ensures.1 j))
+returns c = λ i j. c.add_digits.ensures ∙ both_digits (c.in_ok-first.ensures i) (c.in_ok-second.ensures j)
