@@ -4,6 +4,7 @@ use mathlib.Core.Path.{◌≡◌, sym, ap, ◌∙◌, subst}
 use mathlib.Core.List.{List}
 use native.Mathlib.Omega.{arith}
 use lib.ListN.{length}
+use Rattle.std.specs.Prelude.{Option, Some, None}
 use Rattle.calculus.specs.declared.Uses.{Uses}
 use Rattle.calculus.specs.Uses.{counts, new_nodes, ◌⊕◌}
 use Rattle.calculus.proofs.Counts.{same_uses}
@@ -15,8 +16,7 @@ use Rattle.table.proofs.Words.{sound_node}
 use Rattle.table.proofs.Making.{make_full, full_case, make_places}
 use Rattle.index.specs.Index.{Ready}
 use Rattle.index.specs.Code.{got_by}
-use Rattle.index.specs.declared.Got.{Got}
-use Rattle.index.specs.declared.Got.TheVariants as gets
+use Rattle.table.specs.declared.Made.{Made}
 use Rattle.applying.specs.declared.Frame.{Frame}
 use Rattle.applying.specs.declared.Frame.TheVariants.{SpreadFirst, TriageFirst}
 use Rattle.applying.specs.declared.Rule.{Rule}
@@ -61,21 +61,21 @@ pub use_ready : (r : Turned) (w y : List ℕ) {i : ℕ} {ix : List ℕ} (all : �
 use_ready r w y all m k d n e h = ready_turned r w y e (ap (λ (t : Table). t.used) (no_node all m k d n)) h
 
 -- the node is there, or a place for it is free or not
-module _ (m : Machine) (k : Uses) (w s : List ℕ) (a b : ℕ) {g : Got} (z : List ℕ) (e : got_by g z ≡ make (record { words = w; used = m.used }) a b) where
-  pub grow_full : g ≡ gets.Full → stop Nodes (state_of m z s) ≡ grow (state_of m w s) k a b
+module _ (m : Machine) (k : Uses) (w s : List ℕ) (a b : ℕ) {g : Option Made} (z : List ℕ) (e : got_by g z ≡ make (record { words = w; used = m.used }) a b) where
+  pub grow_full : g ≡ None → stop Nodes (state_of m z s) ≡ grow (state_of m w s) k a b
   unfolding grow grow_by got_by
   grow_full q =
       let f = full_case (record { words = w; used = m.used }) a b (sym (rw q at e)) in
       let c : z ≡ w = ap (λ (t : Table). t.words) f.same in
       rw (make_full (record { words = w; used = m.used }) a b f.absent f.all_used, c)
 
-  module _ (n u : ℕ) (q : g ≡ gets.Node n u) where
-    pub grow_got : (x : Turn) → x ≡ resume (record { words = z; used = u }) (frames_of s m.held) k n → x ≡ grow (state_of m w s) k a b
+  module _ {n : Made} (q : g ≡ Some n) where
+    pub grow_got : {x : Turn} → x ≡ resume (record { words = z; used = n.used }) (frames_of s m.held) k n.node → x ≡ grow (state_of m w s) k a b
     unfolding grow grow_by got_by
-    grow_got x r = rw (← e, q) r
+    grow_got r = rw (← e, q) r
 
     -- its number fits a word
-    pub got_word : {i : ℕ} {ix : List ℕ} → Ready z u i ix → Sound (record { words = w; used = m.used }) → Unbroken m.used a b → n < 4294967296
+    pub got_word : {i : ℕ} {ix : List ℕ} → Ready z n.used i ix → Sound (record { words = w; used = m.used }) → Unbroken m.used a b → n.node < 4294967296
     unfolding got_by
     got_word h s o = let l = make_places s a b o (sym (rw q at e)) in omega (arith, l.inside, h.fine.within, h.fine.short)
 
@@ -100,21 +100,21 @@ asks m w s g r e =
     }
 
 -- the counts with one use more of a rule
-abbrev pub counting : Machine → Rule → Uses
-counting m Leaf = counts (m.leaf + 1) m.stem m.drop m.spread m.triage
-counting m (Stem p) = counts m.leaf (m.stem + 1) m.drop m.spread m.triage
-counting m (Drop y) = counts m.leaf m.stem (m.drop + 1) m.spread m.triage
-counting m (Spread p y) = counts m.leaf m.stem m.drop (m.spread + 1) m.triage
-counting m (Triage p q) = counts m.leaf m.stem m.drop m.spread (m.triage + 1)
+abbrev pub counting : Uses → Rule → Uses
+counting k Leaf = counts (k.leaf + 1) k.stem k.drop k.spread k.triage
+counting k (Stem p) = counts k.leaf (k.stem + 1) k.drop k.spread k.triage
+counting k (Drop y) = counts k.leaf k.stem (k.drop + 1) k.spread k.triage
+counting k (Spread p y) = counts k.leaf k.stem k.drop (k.spread + 1) k.triage
+counting k (Triage p q) = counts k.leaf k.stem k.drop k.spread (k.triage + 1)
 
-counting_is : (m : Machine) (r : Rule) → counting m r ≡ uses_of m ⊕ one_use r
-counting_is m Leaf = same_uses (omega arith) (omega arith) (omega arith) (omega arith) (omega arith)
-counting_is m (Stem p) = same_uses (omega arith) (omega arith) (omega arith) (omega arith) (omega arith)
-counting_is m (Drop y) = same_uses (omega arith) (omega arith) (omega arith) (omega arith) (omega arith)
-counting_is m (Spread p y) = same_uses (omega arith) (omega arith) (omega arith) (omega arith) (omega arith)
-counting_is m (Triage p q) = same_uses (omega arith) (omega arith) (omega arith) (omega arith) (omega arith)
+counting_is : (k : Uses) (r : Rule) → counting k r ≡ k ⊕ one_use r
+counting_is k Leaf = same_uses (omega arith) (omega arith) (omega arith) (omega arith) (omega arith)
+counting_is k (Stem p) = same_uses (omega arith) (omega arith) (omega arith) (omega arith) (omega arith)
+counting_is k (Drop y) = same_uses (omega arith) (omega arith) (omega arith) (omega arith) (omega arith)
+counting_is k (Spread p y) = same_uses (omega arith) (omega arith) (omega arith) (omega arith) (omega arith)
+counting_is k (Triage p q) = same_uses (omega arith) (omega arith) (omega arith) (omega arith) (omega arith)
 
 -- the rule that is wanted is used, and its use is counted
-pub by_rule : (all : ℕ) (m : Machine) (w s : List ℕ) (x : Turn) (r : Rule) → rule w m.function ≡ r → x ≡ use_rule all (state_of m w s) (counting m r) r
-    → x ≡ turn all (state_of m w s)
-by_rule all m w s x r e q = rw (turn_is all (state_of m w s), e, ← counting_is m r) q
+pub by_rule : (all : ℕ) (m : Machine) (w s : List ℕ) {x : Turn} {k : Uses} (r : Rule) → k ≡ uses_of m → rule w m.function ≡ r
+    → x ≡ use_rule all (state_of m w s) (counting k r) r → x ≡ turn all (state_of m w s)
+by_rule all m w s {x} {k} r c e q = rw (turn_is all (state_of m w s), e, ← (counting_is k r ∙ ap (λ (u : Uses). u ⊕ one_use r) c)) q

@@ -15,7 +15,7 @@ ghost use Rattle.rules.specs.Code.{ReadyTurned};
 use applying::{Frame, Rule};
 use calculus::Uses;
 use frames::{End, Machine, Turned};
-use index::Got;
+use table::Made;
 
 // The outcome is the node with the words a and b, if it is there or has a place. The uses are those with this one.
 fn grow(
@@ -31,10 +31,9 @@ fn grow(
     requires { Ready table.old state.used slots index.old × (state.held * 3 ≤ length stack.old) × Unbroken state.used a b }
     ensures { (turn_of result table.new stack.new ≡ grow (state_of state table.old stack.old) uses a b) × ReadyTurned result table.new slots index.new }
 {
-    let got = index::make(table, state.used, index, slots, a, b);
-    let Got::Node { node, used } = got else {
+    let Some(Made { node, used }) = index::make(table, state.used, index, slots, a, b) else {
         return Turned {
-            state: state,
+            state,
             end: End::Nodes,
         };
     };
@@ -53,15 +52,8 @@ pub fn turn(
     ensures { (turn_of result table.new stack.new ≡ turn (frames stack.old) (state_of state table.old stack.old)) × ReadyTurned result table.new slots index.new }
 {
     let n = state.argument;
-    let mut uses = Uses {
-        leaf: state.leaf,
-        stem: state.stem,
-        drop: state.drop,
-        spread: state.spread,
-        triage: state.triage,
-    };
-    let rule = wanted::wanted(table, state.function);
-    match rule {
+    let mut uses = state.uses();
+    match wanted::wanted(table, state.function) {
         Rule::Leaf => {
             uses.leaf += 1;
             grow(table, stack, state, uses, n + 1, 0, index, slots)
