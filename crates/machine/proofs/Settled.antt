@@ -4,6 +4,8 @@ use mathlib.Core.Path.{◌≡◌, sym, ap, ◌∙◌, subst}
 use mathlib.Core.List.{List}
 use native.Mathlib.Omega.{arith}
 use lib.ListN.{length}
+use Rattle.std.specs.Prelude.{Err}
+use Rattle.calculus.specs.declared.Uses.{Uses}
 use Rattle.calculus.specs.Uses.{steps}
 use Rattle.table.specs.Nodes.{Sound, cleared}
 use Rattle.table.specs.Outcome.{Outcome, whole, frames, zeros, stopped}
@@ -11,14 +13,13 @@ use Rattle.table.specs.declared.Refusal.{Refusal}
 use Rattle.table.specs.declared.Refusal.TheVariants.{Steps, Nodes, Frames}
 use Rattle.table.proofs.Words.{cleared_all}
 use Rattle.applying.specs.declared.Rule.{Rule}
-use Rattle.applying.specs.declared.Ended.{Ended}
-use Rattle.applying.specs.declared.Ended.TheVariants.{Node, Stopped}
+use Rattle.applying.specs.declared.Stopped.{Stopped}
 use Rattle.frames.specs.declared.End.{End}
 use Rattle.frames.specs.declared.End.TheVariants as ends
 use Rattle.frames.specs.declared.Turned.{Turned}
 use Rattle.applying.specs.Machine.{rule, Turn, more, done, stop, uses}
 use Rattle.applying.specs.Apply.{begin}
-use Rattle.applying.specs.Ended.{ended, apply_ended}
+use Rattle.applying.specs.Ended.{ended, apply_ended, Ended, ended_in, stopped_with}
 use Rattle.rules.specs.Code.{ReadyEnd, ReadyTurned}
 use Rattle.machine.specs.Code.{ReadyEnded}
 use Rattle.frames.specs.Code.{uses_of, end_of, turn_of}
@@ -26,33 +27,33 @@ use Rattle.applying.proofs.States.{Later, uses_later, Counted, uses_steps}
 use Rattle.applying.proofs.Cases.{sound_begin}
 
 -- Where an application ends: y and z are the words of table and stack that it leaves.
-module _ (u : ℕ) (w s y z : List ℕ) (x : Turned) (a : Ended) (stack : z ≡ cleared s 0 (length s)) where
+module _ (u : ℕ) (w s : List ℕ) {z : List ℕ} (x : Turned) (stack : z ≡ cleared s 0 (length s)) where
   all_zeros : z ≡ zeros s
   all_zeros = stack ∙ cleared_all s
 
-  pub settle_done : {j : ℕ} → j ≡ steps (uses_of x.state) → x.end ≡ ends.Done → a ≡ Node x.state.function x.state.used j (uses_of x.state)
-      → whole a w z ≡ ended u s (turn_of x w s)
+  pub settle_done : {j : ℕ} {k : Uses} → k ≡ uses_of x.state → j ≡ steps k → x.end ≡ ends.Done
+      → whole (ended_in x.state.function x.state.used j k) w z ≡ ended u s (turn_of x w s)
   unfolding ended
-  settle_done l e r = rw (e, r, l, all_zeros)
+  settle_done c l e = rw (e, l, c, all_zeros)
 
-  module _ (nodes : y ≡ cleared w (u * 2) (x.state.used * 2)) where
-    -- the answer of a stop
-    abbrev at : Refusal → Ended
-    at e = Stopped e (steps (uses_of x.state)) (rule w x.state.function)
+  -- the answer of a stop
+  abbrev at : Refusal → Stopped
+  at e = record { refusal = e; steps = steps (uses_of x.state); rule = rule w x.state.function }
 
-    undone : (e : Refusal) → a ≡ at e → whole a y z ≡ stopped (at e) (record { words = w; used = x.state.used }) u s
+  module _ {y : List ℕ} (nodes : y ≡ cleared w (u * 2) (x.state.used * 2)) where
+    undone : {b : Stopped} (e : Refusal) → b ≡ at e → whole {A = Ended} (Err b) y z ≡ stopped {A = Ended} (Err (at e)) (record { words = w; used = x.state.used }) u s
     unfolding stopped
-    undone e r = rw (r, nodes, all_zeros)
+    undone {b} e r = rw (r, nodes, all_zeros)
 
-    pub settle_more : x.end ≡ ends.More → a ≡ at Steps → whole a y z ≡ ended u s (turn_of x w s)
+    pub settle_more : {b : Stopped} → x.end ≡ ends.More → b ≡ at Steps → whole {A = Ended} (Err b) y z ≡ ended u s (turn_of x w s)
     unfolding ended
     settle_more e r = rw e (undone Steps r)
 
-    pub settle_nodes : x.end ≡ ends.Nodes → a ≡ at Nodes → whole a y z ≡ ended u s (turn_of x w s)
+    pub settle_nodes : {b : Stopped} → x.end ≡ ends.Nodes → b ≡ at Nodes → whole {A = Ended} (Err b) y z ≡ ended u s (turn_of x w s)
     unfolding ended
     settle_nodes e r = rw e (undone Nodes r)
 
-    pub settle_frames : x.end ≡ ends.Frames → a ≡ at Frames → whole a y z ≡ ended u s (turn_of x w s)
+    pub settle_frames : {b : Stopped} → x.end ≡ ends.Frames → b ≡ at Frames → whole {A = Ended} (Err b) y z ≡ ended u s (turn_of x w s)
     unfolding ended
     settle_frames e r = rw e (undone Frames r)
 
@@ -61,7 +62,7 @@ pub settle_ready : (u : ℕ) (t : Turned) (y z : List ℕ) (a : Ended) (w s : Li
 unfolding ended stopped ReadyEnd ReadyEnded
 settle_ready u t y z a w s i ix = go t.end
   where
-    refused : {e : Refusal} {j : ℕ} {d : Rule} → a ≡ Stopped e j d → ReadyEnded a w i ix
+    refused : {e : Refusal} {j : ℕ} {d : Rule} → a ≡ stopped_with e j d → ReadyEnded a w i ix
     refused q = rw q tt
 
     go : (e : End) → whole a w s ≡ ended u z (end_of e t.state y z) → ReadyEnd e y t.state.used i ix → ReadyEnded a w i ix

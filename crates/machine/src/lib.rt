@@ -14,7 +14,7 @@ ghost use Rattle.index.specs.Index.{Ready};
 ghost use Rattle.rules.specs.Code.{ReadyTurned};
 ghost use Rattle.machine.specs.Code.{ReadyEnded};
 
-use applying::Ended;
+use applying::{Applied, Stopped};
 use calculus::Uses;
 use frames::{End, Machine, Turned};
 use table::Refusal;
@@ -32,72 +32,61 @@ fn uses(
     ensures { (turn_of result table.new stack.new ≡ uses (frames stack.old) budget (state_of begun table.old stack.old)) × ReadyTurned result table.new slots index.new }
 {
     let mut state = begun;
-    let mut taken = 0;
-    while taken < budget {
+    for _ in 0..budget {
         let turned = rules::turn(table, stack, state, index, slots);
-        let end = turned.end;
-        let End::More = end else {
+        let End::More = turned.end else {
             return turned;
         };
         state = turned.state;
-        taken += 1;
     }
     Turned {
-        state: state,
+        state,
         end: End::More,
     }
 }
 
 // A stop: the rule that is wanted is read, and then the words of the nodes that were made are cleared.
-fn undo(table: &mut [u32], used: usize, state: Machine, refusal: Refusal) -> Ended
+fn undo(table: &mut [u32], used: usize, state: Machine, refusal: Refusal) -> Stopped
     requires { (used ≤ state.used) × Sound (record { words = table.old; used = state.used }) × (state.function < state.used) × (steps (uses_of state) ≤ 1000000) }
-    ensures { (result ≡ Ended.Stopped refusal (steps (uses_of state)) (rule table.old state.function))
+    ensures { (result ≡ record { refusal = refusal; steps = steps (uses_of state); rule = rule table.old state.function })
         × (table.new ≡ cleared table.old (used * 2) (state.used * 2)) }
 {
     let rule = wanted::wanted(table, state.function);
-    let uses = Uses {
-        leaf: state.leaf,
-        stem: state.stem,
-        drop: state.drop,
-        spread: state.spread,
-        triage: state.triage,
-    };
-    let steps = counts::sum(uses);
     nodes::clear(table, used * 2, state.used * 2);
-    Ended::Stopped {
-        refusal: refusal,
-        steps: steps,
-        rule: rule,
+    Stopped {
+        refusal,
+        steps: counts::sum(state.uses()),
+        rule,
     }
 }
 
 // The answer where an application ends that had `used` nodes in use at entry. The stack is cleared, and after a refusal the new nodes too.
-fn settle(table: &mut [u32], stack: &mut [u32], used: usize, turned: Turned) -> Ended
+fn settle(
+    table: &mut [u32],
+    stack: &mut [u32],
+    used: usize,
+    turned: Turned,
+) -> Result<Applied, Stopped>
     requires { (used ≤ turned.state.used) × Sound (record { words = table.old; used = turned.state.used }) × (turned.state.function < turned.state.used)
         × (steps (uses_of turned.state) ≤ 1000000) }
     ensures { whole result table.new stack.new ≡ ended used stack.old (turn_of turned table.old stack.old) }
 {
     let len = stack.len();
     nodes::clear(stack, 0, len);
-    let end = turned.end;
     let state = turned.state;
-    let uses = Uses {
-        leaf: state.leaf,
-        stem: state.stem,
-        drop: state.drop,
-        spread: state.spread,
-        triage: state.triage,
-    };
-    match end {
-        End::More => undo(table, used, state, Refusal::Steps),
-        End::Done => Ended::Node {
-            node: state.function,
-            used: state.used,
-            steps: counts::sum(uses),
-            uses: uses,
-        },
-        End::Nodes => undo(table, used, state, Refusal::Nodes),
-        End::Frames => undo(table, used, state, Refusal::Frames),
+    match turned.end {
+        End::More => Err(undo(table, used, state, Refusal::Steps)),
+        End::Done => {
+            let uses = state.uses();
+            Ok(Applied {
+                node: state.function,
+                used: state.used,
+                steps: counts::sum(uses),
+                uses,
+            })
+        }
+        End::Nodes => Err(undo(table, used, state, Refusal::Nodes)),
+        End::Frames => Err(undo(table, used, state, Refusal::Frames)),
     }
 }
 
@@ -111,21 +100,18 @@ pub fn apply_nodes(
     limit: usize,
     index: &mut [u16],
     slots: usize,
-) -> Ended
+) -> Result<Applied, Stopped>
     requires { Ready table.old used slots index.old × (function < used) × (argument < used) × (limit ≤ 1000000) }
     ensures { (whole result table.new stack.new ≡ apply_ended table.old used stack.old function argument limit) × ReadyEnded result table.new slots index.new }
 {
-    let begun = Machine {
-        used: used,
-        function: function,
-        argument: argument,
-        held: 0,
+    let none = Uses {
         leaf: 0,
         stem: 0,
         drop: 0,
         spread: 0,
         triage: 0,
     };
+    let begun = Machine::new(used, function, argument, 0, none);
     let turned = uses(table, stack, begun, limit, index, slots);
     settle(table, stack, used, turned)
 }

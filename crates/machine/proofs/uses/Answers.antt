@@ -22,25 +22,25 @@ over ended.Done m w s h go = refl
 over ended.Nodes m w s h go = refl
 over ended.Frames m w s h go = refl
 
-pub loop-taken-init : goal.loop-taken-init
-loop-taken-init c = (going_start c.args.budget c.requires.0, c.requires.2)
+pub loop-init : goal.loop-init
+loop-init c = (going_start c.args.budget c.requires.0, c.requires.2)
 
 pub turn-turned-requires : goal.turn-turned-requires
 turn-turned-requires c =
-    let i = c.loop-taken.invariant in
-    (rw c.loop-taken.auto.stack i.0.good, omega (arith, i.0.counted, c.requires.1), i.1)
+    let i = c.loop.invariant in
+    (rw c.loop.auto.stack i.0.good, omega (arith, i.0.counted, c.requires.1), i.1)
 
 pub returns-in_default : goal.returns-in_default
 returns-in_default c =
     let r = c.turn-turned in (
-      going_over c.loop-taken.invariant.0 _ (omega arith) (rw c.loop-taken.auto.stack at r.ensures.0)
+      going_over c.loop.invariant.0 _ (omega arith) (rw c.loop.auto.stack at r.ensures.0)
           (over r.result.end r.result.state r.new.table r.new.stack c.in_default.not-More),
       r.ensures.1,
     )
 
-pub loop-taken-preserved : goal.loop-taken-preserved
-loop-taken-preserved c =
-    let l = c.loop-taken in
+pub loop-preserved : goal.loop-preserved
+loop-preserved c =
+    let l = c.loop in
     let r = c.turn-turned.result in
     let w = c.turn-turned.new.table in
     let z = state_of r.state w c.turn-turned.new.stack in
@@ -50,4 +50,4 @@ loop-taken-preserved c =
 
 pub returns : goal.returns
 unfolding ReadyEnd
-returns c = let i = c.loop-taken.invariant in (going_out i.0 (omega arith), i.1)
+returns c = let i = c.loop.invariant in (going_out i.0 (omega arith), i.1)
