@@ -1,71 +1,53 @@
 -- Laws of the tests and of the answer, one for each way that the code goes. Assumes nothing.
 use Prim.Native.Nat.{ℕ, ◌≤◌, ◌<◌}
-use mathlib.Core.Path.{◌≡◌, refl, sym, subst}
-use mathlib.Core.Bool.{Bool, true, false}
-use mathlib.Core.List.{List, [], ◌∷◌}
-use mathlib.Core.Logic.{⊎_elim}
+use mathlib.Core.Path.{◌≡◌, refl, sym, ◌∙◌}
+use mathlib.Core.Bool.{Bool, true, false, cond}
+use mathlib.Core.List.{List, []}
 use mathlib.Core.Option.{none}
-use native.Mathlib.Omega.{arith}
-use types.Run
-use denote.Enum.Declared
 use borrow.Author.Tests.{lt-ltb, le-ltb}
+use Rattle.std.specs.Prelude.{Option, Some, None, Result, Err, ⊤, ok_or}
+use Rattle.std.specs.Bool.{then_some}
+use Rattle.std.proofs.lemmas.Option.{cond_some}
 use Rattle.calculus.specs.Tree.{Tree, leaf}
 use Rattle.table.specs.Nodes.{tree_at}
 use Rattle.table.specs.Branches.{IsStem, IsFork}
 use Rattle.table.specs.Outcome.{at_entry}
+use Rattle.table.specs.declared.Refusal.{Refusal}
 use Rattle.table.specs.declared.Refusal.TheVariants.{Node, Label}
+use Rattle.table.proofs.Entry.{check_refuses}
+use Rattle.checks.specs.Code.{refusal_of}
 use Rattle.table.proofs.Words.{zero_one}
-use Rattle.labelled.specs.Unlabel.{is_leaf, is_stem, is_k, is_kk, is_k_of, is_label_branch, is_rule_branch, is_labelled, label_under, rule_under, label_node, rule_node, unlabel_node, unlabel}
-use Rattle.labelled.specs.declared.Unlabelled.TheVariants.{Parts, Refused}
-use Rattle.unlabel.specs.Code.{Shaped, a_leaf, a_stem, a_fork, Holds, of_form, not_of_form}
+use Rattle.labelled.specs.declared.Parts.{Parts}
+use Rattle.labelled.specs.Unlabel.{Unlabelled, is_leaf, is_stem, is_k, is_kk, is_k_of, is_label_branch, is_rule_branch, is_labelled, label_under, rule_under, label_node, rule_node, parts, no_parts, unlabel_node, unlabel}
+use Rattle.unlabel.specs.Code.{Shaped, where_form}
 use Rattle.unlabel.specs.declared.Shape.{Shape}
 use Rattle.unlabel.specs.declared.Shape.TheVariants.{Leaf, Stem, Fork}
-use Rattle.unlabel.specs.declared.Under.{Under}
-use Rattle.unlabel.specs.declared.Under.TheVariants as under
 
 pub leaf_passes : {x : Tree} → x ≡ leaf → is_leaf x ≡ true
 unfolding is_leaf
 leaf_passes h = rw h
 
--- what the shape of a node tells: what its tree is, or which tests the tree fails
-module _ {w : List ℕ} {v : ℕ} where
-  leaf_in : Shaped w v Leaf → tree_at w v ≡ leaf
-  leaf_in (a_leaf h) = h
-
-  stem_in : {p : ℕ} → Shaped w v (Stem p) → IsStem w v p
-  stem_in (a_stem h) = h
-
-  fork_in : {p q : ℕ} → Shaped w v (Fork p q) → IsFork w v p q
-  fork_in (a_fork h) = h
-
-  pub told_leaf : {s : Shape} → Shaped w v s → s ≡ Leaf → tree_at w v ≡ leaf
-  told_leaf h e = leaf_in (subst (Shaped w v) e h)
-
-  pub told_stem : {s : Shape} {p : ℕ} → Shaped w v s → s ≡ Stem p → IsStem w v p
-  told_stem h e = stem_in (subst (Shaped w v) e h)
-
-  pub told_fork : {s : Shape} {p q : ℕ} → Shaped w v s → s ≡ Fork p q → IsFork w v p q
-  told_fork h e = fork_in (subst (Shaped w v) e h)
-
-  pub no_leaf : {s : Shape} → Shaped w v s → (s ≡ Leaf → ⊥) → is_leaf (tree_at w v) ≡ false
+-- which tests a tree fails whose node has another shape
+module _ (w : List ℕ) (v : ℕ) where
+  pub no_leaf : (s : Shape) → Shaped w v s → (s ≡ Leaf → ⊥) → is_leaf (tree_at w v) ≡ false
   unfolding is_leaf
-  no_leaf (a_leaf h) o = absurd (o refl)
-  no_leaf (a_stem h) o = rw h.tree
-  no_leaf (a_fork h) o = rw h.tree
+  no_leaf Leaf h o = absurd (o refl)
+  no_leaf (Stem p) h o = rw h.tree
+  no_leaf (Fork p q) h o = rw h.tree
 
-  pub no_stem : {s : Shape} → Shaped w v s → ((p : ℕ) → s ≡ Stem p → ⊥)
+  pub no_stem : (s : Shape) → Shaped w v s → ((p : ℕ) → s ≡ Stem p → ⊥)
       → (is_stem (tree_at w v) ≡ false) × (is_k (tree_at w v) ≡ false) × (is_label_branch (tree_at w v) ≡ false)
   unfolding is_stem is_k is_label_branch
-  no_stem (a_leaf h) o = rw h (refl, refl, refl)
-  no_stem (a_stem h) o = absurd (o _ refl)
-  no_stem (a_fork h) o = rw h.tree (refl, refl, refl)
+  no_stem Leaf h o = rw h (refl, refl, refl)
+  no_stem (Stem p) h o = absurd (o _ refl)
+  no_stem (Fork p q) h o = rw h.tree (refl, refl, refl)
 
-  pub no_fork : {s : Shape} → Shaped w v s → ((p q : ℕ) → s ≡ Fork p q → ⊥)
+  pub no_fork : (s : Shape) → Shaped w v s → ((p q : ℕ) → s ≡ Fork p q → ⊥)
       → (is_kk (tree_at w v) ≡ false) × (is_k_of (tree_at w v) ≡ false) × (is_rule_branch (tree_at w v) ≡ false) × (is_labelled (tree_at w v) ≡ false)
   unfolding is_kk is_k_of is_rule_branch is_labelled
-  no_fork (a_leaf h) o = rw h (refl, refl, refl, refl)
-  no_fork (a_stem h) o = rw h.tree (refl, refl, refl, refl)
-  no_fork (a_fork h) o = absurd (o _ _ refl)
+  no_fork Leaf h o = rw h (refl, refl, refl, refl)
+  no_fork (Stem p) h o = rw h.tree (refl, refl, refl, refl)
+  no_fork (Fork p q) h o = absurd (o _ _ refl)
 
 -- the test of the stem of a node p
 pub label_branch : {w : List ℕ} {v p : ℕ} {z : Bool} → IsStem w v p → is_k_of (tree_at w p) ≡ z → is_label_branch (tree_at w v) ≡ z
@@ -99,26 +81,40 @@ module _ {w : List ℕ} {v p q : ℕ} (k : IsFork w v p q) where
   unfolding is_rule_branch is_stem
   rule_second s h = rw (k.tree, s.tree) h
 
--- what the node under a branch tells
-module _ {b : Bool} {i : ℕ} where
-  pub of_form_at : {j : ℕ} → b ≡ true → j ≡ i → Holds b i (under.Node j)
-  of_form_at h e = subst (λ (x : ℕ). Holds b i (under.Node x)) (sym e) (of_form h)
+-- the node under a branch, by the branch's form
+pub of_form : {b : Bool} {i j : ℕ} → b ≡ true → j ≡ i → Some j ≡ where_form b i
+of_form h e = rw (h, e)
 
-  pub told_node : {r : Under} {j : ℕ} → Holds b i r → r ≡ under.Node j → (b ≡ true) × (j ≡ i)
-  told_node (of_form h) e = (h, cc)
-  told_node (not_of_form h) e = zero_one (cc)
+pub not_of_form : {b : Bool} (i : ℕ) → b ≡ false → None ≡ where_form b i
+not_of_form i h = rw h
 
-  pub told_other : {r : Under} → Holds b i r → r ≡ under.Other → b ≡ false
-  told_other (of_form h) e = zero_one (cc)
-  told_other (not_of_form h) e = h
+pub kept : {b d : Bool} {i j : ℕ} → d ≡ b → j ≡ i → then_some d j ≡ where_form b i
+kept {b} {i = i} h e = rw (h, e) (go b)
+  where
+    go : (z : Bool) → then_some z i ≡ where_form z i
+    go true = refl
+    go false = refl
+
+pub told_node : (b : Bool) (i : ℕ) {r : Option ℕ} {j : ℕ} → r ≡ where_form b i → r ≡ Some j → (b ≡ true) × (j ≡ i)
+told_node b i {j = j} p q = let c = cond_some b i j (sym p ∙ q) in (c.0, sym c.1)
+
+pub told_none : (b : Bool) (i : ℕ) {r : Option ℕ} → r ≡ where_form b i → r ≡ None → b ≡ false
+told_none b i p q = go b (sym p ∙ q)
+  where
+    go : (z : Bool) → cond z (Some i) None ≡ None → z ≡ false
+    go true e = zero_one (cc)
+    go false e = refl
 
 -- 11, or the nodes
-pub no_labelled : (w : List ℕ) (v : ℕ) → is_labelled (tree_at w v) ≡ false → Refused Label ≡ unlabel_node w v
+pub refused : {o : Option Parts} {u : Unlabelled} → o ≡ None → no_parts Label ≡ u → ok_or o Label ≡ u
+refused p e = rw p e
+
+pub no_labelled : (w : List ℕ) (v : ℕ) → is_labelled (tree_at w v) ≡ false → no_parts Label ≡ unlabel_node w v
 unfolding unlabel_node
 no_labelled w v h = rw h
 
 module _ {w : List ℕ} {v p q : ℕ} (k : IsFork w v p q) where
-  pub no_label_branch : is_label_branch (tree_at w p) ≡ false → Refused Label ≡ unlabel_node w v
+  pub no_label_branch : is_label_branch (tree_at w p) ≡ false → no_parts Label ≡ unlabel_node w v
   unfolding is_labelled
   no_label_branch h = no_labelled w v (rw (k.tree, h))
 
@@ -127,16 +123,22 @@ module _ {w : List ℕ} {v p q : ℕ} (k : IsFork w v p q) where
     unfolding is_labelled
     both h = rw (k.tree, l) h
 
-    pub no_rule_branch : is_rule_branch (tree_at w q) ≡ false → Refused Label ≡ unlabel_node w v
+    pub no_rule_branch : is_rule_branch (tree_at w q) ≡ false → no_parts Label ≡ unlabel_node w v
     no_rule_branch h = no_labelled w v (both h)
 
-    pub both_branches : {f t : ℕ} → is_rule_branch (tree_at w q) ≡ true → f ≡ rule_under w q → t ≡ label_under w p → Parts f t ≡ unlabel_node w v
+    pub both_branches : {f t : ℕ} → is_rule_branch (tree_at w q) ≡ true → f ≡ rule_under w q → t ≡ label_under w p → parts f t ≡ unlabel_node w v
     unfolding unlabel_node rule_node label_node
     both_branches h x y = rw (both h, x, y, k.one_is, k.two_is)
 
+-- 1 or 2
+pub refused_at_entry : (w : List ℕ) (u v : ℕ) {k : Result ⊤ Refusal} {e : Refusal} {r : Unlabelled} → refusal_of k ≡ at_entry true w u [] → k ≡ Err e → r ≡ Err e
+    → r ≡ unlabel w u v
+unfolding unlabel
+refused_at_entry w u v q p a = a ∙ check_refuses no_parts _ (rw p at q)
+
 -- the node number, where neither 1 nor 2 is met
 module _ (w : List ℕ) (u v : ℕ) (q : none ≡ at_entry true w u []) where
-  pub no_node : u ≤ v → Refused Node ≡ unlabel w u v
+  pub no_node : u ≤ v → no_parts Node ≡ unlabel w u v
   unfolding unlabel
   no_node h = rw (← q, le-ltb v u h)
 

@@ -2,14 +2,14 @@
 // mean in its terms.
 #![tactic(auto)]
 
-ghost use Rattle.std.specs.Prelude.{◌≡◌};
+ghost use Rattle.std.specs.Prelude.{◌≡◌, ok_or};
 ghost use Rattle.table.specs.Nodes.{tree_at};
 ghost use Rattle.table.specs.Branches.{InUse};
+ghost use Rattle.table.specs.declared.Refusal.TheVariants.{Label};
 ghost use Rattle.labelled.specs.Unlabel.{is_kk, is_label_branch, is_rule_branch, label_under, rule_under, unlabel_node, unlabel};
-ghost use Rattle.unlabel.specs.Code.{Shaped, Holds};
+ghost use Rattle.unlabel.specs.Code.{Shaped, where_form};
 
-use checks::Checked;
-use labelled::Unlabelled;
+use labelled::Parts;
 use table::Refusal;
 
 // A node by its branches: a leaf, the stem of a node, or the fork of two.
@@ -20,27 +20,18 @@ enum Shape {
     Fork(usize, usize),
 }
 
-// The node of the label or of the rule under one of the two branches, where the branch has its form.
-#[derive(Clone, Copy)]
-enum Under {
-    Node(usize),
-    Other,
-}
-
 // The shape of a node in use.
 fn shape_at(table: &[u32], node: usize) -> Shape
     requires { InUse table.now node }
     ensures { Shaped table.now node result }
 {
     let a = nodes::word(table, node * 2);
-    if a == 0 {
-        return Shape::Leaf;
-    }
     let b = nodes::word(table, node * 2 + 1);
-    if b == 0 {
-        return Shape::Stem(a - 1);
+    match (a, b) {
+        (0, _) => Shape::Leaf,
+        (_, 0) => Shape::Stem(a - 1),
+        _ => Shape::Fork(a - 1, b - 1),
     }
-    Shape::Fork(a - 1, b - 1)
 }
 
 // Whether the tree of a node in use is KK: the fork of a leaf and of a leaf's stem.
@@ -48,96 +39,69 @@ fn is_constant(table: &[u32], node: usize) -> bool
     requires { InUse table.now node }
     ensures { result ≡ is_kk (tree_at table.now node) }
 {
-    let whole = shape_at(table, node);
-    let Shape::Fork(p, q) = whole else {
+    let Shape::Fork(p, q) = shape_at(table, node) else {
         return false;
     };
-    let first = shape_at(table, p);
-    let Shape::Leaf = first else {
+    let Shape::Leaf = shape_at(table, p) else {
         return false;
     };
-    let second = shape_at(table, q);
-    let Shape::Stem(x) = second else {
+    let Shape::Stem(x) = shape_at(table, q) else {
         return false;
     };
-    let last = shape_at(table, x);
-    match last {
-        Shape::Leaf => true,
-        Shape::Stem(_) => false,
-        Shape::Fork(_, _) => false,
-    }
+    matches!(shape_at(table, x), Shape::Leaf)
 }
 
 // The node of t where the tree of a node in use is Δ(Kt).
-fn label_under(table: &[u32], node: usize) -> Under
+fn label_under(table: &[u32], node: usize) -> Option<usize>
     requires { InUse table.now node }
-    ensures { Holds (is_label_branch (tree_at table.now node)) (label_under table.now node) result }
+    ensures { result ≡ where_form (is_label_branch (tree_at table.now node)) (label_under table.now node) }
 {
-    let whole = shape_at(table, node);
-    let Shape::Stem(constant) = whole else {
-        return Under::Other;
+    let Shape::Stem(constant) = shape_at(table, node) else {
+        return None;
     };
-    let held = shape_at(table, constant);
-    let Shape::Fork(p, label) = held else {
-        return Under::Other;
+    let Shape::Fork(p, label) = shape_at(table, constant) else {
+        return None;
     };
-    let first = shape_at(table, p);
-    let Shape::Leaf = first else {
-        return Under::Other;
+    let Shape::Leaf = shape_at(table, p) else {
+        return None;
     };
-    Under::Node(label)
+    Some(label)
 }
 
 // The node of f where the tree of a node in use is Δ(Δf)(KK).
-fn rule_under(table: &[u32], node: usize) -> Under
+fn rule_under(table: &[u32], node: usize) -> Option<usize>
     requires { InUse table.now node }
-    ensures { Holds (is_rule_branch (tree_at table.now node)) (rule_under table.now node) result }
+    ensures { result ≡ where_form (is_rule_branch (tree_at table.now node)) (rule_under table.now node) }
 {
-    let whole = shape_at(table, node);
-    let Shape::Fork(p, q) = whole else {
-        return Under::Other;
+    let Shape::Fork(p, q) = shape_at(table, node) else {
+        return None;
     };
-    let first = shape_at(table, p);
-    let Shape::Stem(rule) = first else {
-        return Under::Other;
+    let Shape::Stem(rule) = shape_at(table, p) else {
+        return None;
     };
-    if !is_constant(table, q) {
-        return Under::Other;
-    }
-    Under::Node(rule)
+    is_constant(table, q).then_some(rule)
 }
 
-// The nodes of rule and label out of the tree of a node in use, or 11. The tree is known by its form alone, wherever its nodes lie.
-fn unlabel_node(table: &[u32], node: usize) -> Unlabelled
+// The nodes of rule and label out of the tree of a node in use, where it is of the labelled form. The tree is known by its form alone, wherever its nodes lie.
+fn unlabel_node(table: &[u32], node: usize) -> Option<Parts>
     requires { InUse table.now node }
-    ensures { result ≡ unlabel_node table.now node }
+    ensures { ok_or result Label ≡ unlabel_node table.now node }
 {
-    let whole = shape_at(table, node);
-    let Shape::Fork(p, q) = whole else {
-        return Unlabelled::Refused(Refusal::Label);
+    let Shape::Fork(p, q) = shape_at(table, node) else {
+        return None;
     };
-    let first = label_under(table, p);
-    let Under::Node(label) = first else {
-        return Unlabelled::Refused(Refusal::Label);
-    };
-    let second = rule_under(table, q);
-    let Under::Node(rule) = second else {
-        return Unlabelled::Refused(Refusal::Label);
-    };
-    Unlabelled::Parts { rule, label }
+    let label = label_under(table, p)?;
+    let rule = rule_under(table, q)?;
+    Some(Parts { rule, label })
 }
 
 // The nodes of rule and label out of the labelled tree of a node. The table is only read.
-pub fn unlabel(table: &[u32], used: usize, node: usize) -> Unlabelled
+pub fn unlabel(table: &[u32], used: usize, node: usize) -> Result<Parts, Refusal>
     ensures { result ≡ unlabel table.now used node }
 {
-    let none: [u32; 0] = [];
-    let checked = entry_check::check(true, table, used, &none);
-    if let Checked::Refused(e) = checked {
-        return Unlabelled::Refused(e);
-    }
+    entry_check::check(true, table, used, &[])?;
     if used <= node {
-        return Unlabelled::Refused(Refusal::Node);
+        return Err(Refusal::Node);
     }
-    unlabel_node(table, node)
+    unlabel_node(table, node).ok_or(Refusal::Label)
 }

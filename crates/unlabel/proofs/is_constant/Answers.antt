@@ -1,61 +1,25 @@
 -- `unlabel::is_constant` meets its contract: the tests of KK, one after another. Assumes nothing.
-use Prim.Native.Nat.{ℕ}
 use mathlib.Core.Path.{◌≡◌, sym}
-use mathlib.Core.Bool.{Bool}
-use mathlib.Core.List.{List}
-use mathlib.Core.Logic.{inl, inr}
+use Rattle.std.proofs.Common.{rules}
 use Rattle.calculus.specs.Tree.{leaf}
 use Rattle.table.specs.Nodes.{tree_at}
-use Rattle.labelled.specs.Unlabel.{is_leaf, is_kk}
-use Rattle.table.specs.Branches.{IsStem, IsFork}
-use Rattle.unlabel.specs.Code.{Shaped}
-use Rattle.unlabel.specs.declared.Shape.{Shape}
-use Rattle.unlabel.specs.declared.Shape.TheVariants.{Leaf, Stem, Fork}
-use Rattle.unlabel.proofs.Ways.{told_leaf, told_stem, told_fork, no_leaf, no_stem, no_fork, kk_first, kk_second, kk_last, leaf_passes}
+use Rattle.unlabel.proofs.Ways.{no_leaf, no_stem, no_fork, kk_first, kk_second, kk_last, leaf_passes}
 use Rattle.unlabel.proofs.is_constant.Goals as goal
 
--- what is known of KK where the last shape is told
-last : {w : List ℕ} {v p q x : ℕ} {a b d : Shape} {z : Bool} → Shaped w v a → a ≡ Fork p q → Shaped w p b → b ≡ Leaf → Shaped w q d → d ≡ Stem x
-    → is_leaf (tree_at w x) ≡ z → z ≡ is_kk (tree_at w v)
-last h e i f j g k = sym (kk_last (told_fork h e) (told_leaf i f) (told_stem j g) k)
-
 pub returns-in_default : goal.returns-in_default
-returns-in_default c = sym (no_fork c.shape_at-whole.ensures c.in_default.not-Fork).0
+returns-in_default c = sym (no_fork c.args.table.now c.args.node _ c.shape_at.ensures c.in_default.not-Fork).0
 
-pub shape_at-first-requires : goal.shape_at-first-requires
-shape_at-first-requires c =
-    let whole : IsFork c.args.table.now c.args.node c.in-Fork.p c.in-Fork.q = told_fork c.shape_at-whole.ensures c.in-Fork.is in
-    whole.one
+pub returns-in_default-shape_at : goal.returns-in_default-shape_at
+returns-in_default-shape_at c = sym (kk_first c.in-Fork.ensures (no_leaf c.args.table.now c.in-Fork.p _ c.shape_at-2.ensures c.in_default-shape_at.not-Leaf))
 
-pub returns-in_default-first : goal.returns-in_default-first
-returns-in_default-first c =
-    let whole : IsFork c.args.table.now c.args.node c.in-Fork.p c.in-Fork.q = told_fork c.shape_at-whole.ensures c.in-Fork.is in
-    sym (kk_first whole (no_leaf c.shape_at-first.ensures c.in_default-first.not-Leaf))
+pub returns-in_default-shape_at-2 : goal.returns-in_default-shape_at-2
+returns-in_default-shape_at-2 c = sym (kk_second c.in-Fork.ensures c.in-Leaf.ensures (no_stem c.args.table.now c.in-Fork.q _ c.shape_at-3.ensures c.in_default-shape_at-2.not-Stem).1)
 
-pub shape_at-second-requires : goal.shape_at-second-requires
-shape_at-second-requires c =
-    let whole : IsFork c.args.table.now c.args.node c.in-Fork.p c.in-Fork.q = told_fork c.shape_at-whole.ensures c.in-Fork.is in
-    whole.two
+pub returns-in-Leaf-matches : goal.returns-in-Leaf-matches
+returns-in-Leaf-matches c =
+    let x : tree_at c.args.table.now c.in-Stem.x ≡ leaf = search rules in
+    sym (kk_last c.in-Fork.ensures c.in-Leaf.ensures c.in-Stem.ensures (leaf_passes x))
 
-pub returns-in_default-second : goal.returns-in_default-second
-returns-in_default-second c =
-    let whole : IsFork c.args.table.now c.args.node c.in-Fork.p c.in-Fork.q = told_fork c.shape_at-whole.ensures c.in-Fork.is in
-    let first : tree_at c.args.table.now c.in-Fork.p ≡ leaf = told_leaf c.shape_at-first.ensures c.in-Leaf.is in
-    sym (kk_second whole first (no_stem c.shape_at-second.ensures c.in_default-second.not-Stem).1)
-
-pub shape_at-last-requires : goal.shape_at-last-requires
-shape_at-last-requires c =
-    let second : IsStem c.args.table.now c.in-Fork.q c.in-Stem.x = told_stem c.shape_at-second.ensures c.in-Stem.is in
-    second.branch
-
-pub returns-in-Leaf-last : goal.returns-in-Leaf-last
-returns-in-Leaf-last c =
-    last c.shape_at-whole.ensures c.in-Fork.is c.shape_at-first.ensures c.in-Leaf.is c.shape_at-second.ensures c.in-Stem.is (leaf_passes (told_leaf c.shape_at-last.ensures c.in-Leaf-last.is))
-
-pub returns-in-Stem-last : goal.returns-in-Stem-last
-returns-in-Stem-last c =
-    last c.shape_at-whole.ensures c.in-Fork.is c.shape_at-first.ensures c.in-Leaf.is c.shape_at-second.ensures c.in-Stem.is (no_leaf c.shape_at-last.ensures (λ e. cc (e, c.in-Stem-last.is)))
-
-pub returns-in-Fork-last : goal.returns-in-Fork-last
-returns-in-Fork-last c =
-    last c.shape_at-whole.ensures c.in-Fork.is c.shape_at-first.ensures c.in-Leaf.is c.shape_at-second.ensures c.in-Stem.is (no_leaf c.shape_at-last.ensures (λ e. cc (e, c.in-Fork-last.is)))
+pub returns-in_default-matches : goal.returns-in_default-matches
+returns-in_default-matches c =
+    sym (kk_last c.in-Fork.ensures c.in-Leaf.ensures c.in-Stem.ensures (no_leaf c.args.table.now c.in-Stem.x _ c.shape_at-4.ensures c.in_default-matches.not-Leaf))
