@@ -10,40 +10,21 @@ ghost use Rattle.endings.specs.Ready.{Ready};
 
 use calculus::Uses;
 use running::Ran;
-use table::{Made, Refusal};
-use ternary::Written;
-
-// The refusal of an operation that makes nodes, where there is one.
-pub fn made_refusal(made: Made) -> Refusal
-    requires { (n u : ℕ) → made ≡ Made.Node n u → ⊥ }
-    ensures { made ≡ Made.Refused result }
-{
-    match made {
-        Made::Refused(refusal) => refusal,
-        Made::Node { node: _, used: _ } => Refusal::Limits,
-    }
-}
-
-// The refusal of Write, where there is one.
-fn written_refusal(written: Written) -> Refusal
-    requires { (n : ℕ) → written ≡ Written.Digits n → ⊥ }
-    ensures { written ≡ Written.Refused result }
-{
-    match written {
-        Written::Refused(refusal) => refusal,
-        Written::Digits(_) => Refusal::Limits,
-    }
-}
+use table::Refusal;
 
 // A stage was refused with `used` nodes in use before it: every node made since the entry is cleared, and the stack.
-pub fn stop(table: &mut [u32], used: usize, stack: &mut [u32], refusal: Refusal) -> Ran
+pub fn stop(
+    table: &mut [u32],
+    used: usize,
+    stack: &mut [u32],
+    refusal: Refusal,
+) -> Result<Ran, Refusal>
     requires { used * 2 ≤ length table.old }
     ensures { (o : List ℕ) → whole_out result table.new stack.new o ≡ stopped refusal table.old used stack.old o }
 {
-    let len = stack.len();
     nodes::clear(table, 0, used * 2);
-    nodes::clear(stack, 0, len);
-    Ran::Refused(refusal)
+    stack.fill(0);
+    Err(refusal)
 }
 
 // Writes the outcome, a node that came of these uses.
@@ -54,19 +35,18 @@ pub fn write_outcome(
     out: &mut [u8],
     node: usize,
     uses: Uses,
-) -> Ran
+) -> Result<Ran, Refusal>
     requires { Ready table.old used stack.old out.old × (node < used) × (steps uses ≤ 1000000) }
     ensures { whole_out result table.new stack.new out.new
         ≡ writes table.old used stack.old out.old node uses }
 {
-    let written = writer::write_node(table, used, stack, node, out);
-    let Written::Digits(digits) = written else {
-        return stop(table, used, stack, written_refusal(written));
-    };
-    Ran::Text {
-        steps: counts::sum(uses),
-        used: used,
-        digits: digits,
-        uses: uses,
+    match writer::write_node(table, used, stack, node, out) {
+        Ok(digits) => Ok(Ran {
+            steps: counts::sum(uses),
+            used: used,
+            digits: digits,
+            uses: uses,
+        }),
+        Err(e) => stop(table, used, stack, e),
     }
 }
