@@ -1,5 +1,5 @@
 -- Digits and items by the words of a node in use, and digits one after another. Assumes nothing.
-use Prim.Native.Nat.{ℕ, zero, suc, ◌+◌, ◌-◌, ◌/◌, ◌≤◌, ◌<◌}
+use Prim.Native.Nat.{ℕ, zero, suc, ◌+◌, ◌-◌, ◌≤◌, ◌<◌}
 use mathlib.Core.Path.{◌≡◌, refl, sym, ap, subst, ◌∙◌}
 use mathlib.Core.List.{List, append-nil}
 use mathlib.Core.Option.{Option, none, some}
@@ -16,10 +16,6 @@ use Rattle.table.proofs.Branches.{leaf_by, stem_by, fork_by}
 use Rattle.weights.specs.Digits.{digit_after, digit_of, before, digits_in}
 use Rattle.weights.proofs.Places.{after, after_put}
 use Rattle.weight_digits.specs.Code.{NoItem, FirstItem}
-
--- a node in use has its words in the table
-pub inside : {w : List ℕ} {v : ℕ} {A : Type 0} → length w / 2 ≤ v → InUse w v → A
-inside h i = absurd (omega (arith, i.inside, i.fine.within))
 
 -- the leaf of a sound table is node 0, and no other
 pub zero_leaf : {w : List ℕ} → InUse w 0 → tree_at w 0 ≡ leaf
