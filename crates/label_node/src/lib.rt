@@ -23,10 +23,7 @@ fn label_checked(
     requires { Ready table.old used slots index.old × (at_entry true table.old used [] ≡ none) }
     ensures { whole result table.new [] ≡ labelling.label table.old used rule label }
 {
-    if used <= rule {
-        return Err(Refusal::Node);
-    }
-    if used <= label {
+    if used <= rule || used <= label {
         return Err(Refusal::Node);
     }
     label::label_rule(table, used, rule, label, index, slots)
