@@ -1,75 +1,67 @@
 -- Laws of hexadecimal, and that what was written lies within its array. Assumes nothing.
-use Prim.Native.Nat.{ℕ, suc, ◌+◌, ◌-◌, ◌*◌, ◌/◌, ◌%◌, ◌≤◌, ◌<◌}
-use mathlib.Core.Path.{◌≡◌, sym, ap, subst, ◌∙◌}
-use mathlib.Core.List.{List, [], ◌∷◌, ◌++◌}
+use Prim.Native.Nat.{ℕ, zero, suc, ◌+◌, ◌*◌, ◌/◌, ◌%◌, ◌≤◌, ◌<◌}
+use mathlib.Core.Path.{◌≡◌, refl, sym, ap, subst, ◌∙◌}
+use mathlib.Core.List.{List, [], ◌∷◌, ◌++◌, append_assoc}
 use native.Mathlib.Omega.{arith}
-use lib.ListN.{length, get_or, drop, set, length-append, length-set, drop_of_length-le}
-use lib.Seq.{drop-cons, drop-set-lt, get_or-set_same, get_or-set_other}
-use borrow.Author.Tests.{lt-ltb, le-ltb}
+use native.Mathlib.Numerals.{add-one}
+use lib.ListN.{length, get_or, take, drop, set, length-append, length-set}
+use Rattle.std.proofs.lemmas.List.{take-append-drop}
+use lib.Seq.{take-length, take-suc-set, drop-drop, drop-set-lt}
 use Rattle.calculus.specs.Bytes.{bytes}
 use Rattle.table.specs.Outcome.{Outcome, whole_out}
 use Rattle.grammar.specs.Meaning.{term_of}
-use Rattle.grammar.specs.Outcome.{rule_text}
-use Rattle.grammar.specs.declared.Encoded.{Encoded}
-use Rattle.grammar.specs.declared.Encoded.TheVariants.{Bytes}
+use Rattle.grammar.specs.Outcome.{Encoded, rule_text}
+use Rattle.std.specs.Prelude.{Ok}
 use Rattle.grammar.proofs.Exact.{given_bytes_lem}
 use Rattle.rule_text.specs.Line.{digit, digits}
 
--- a byte's two digits, before those of the bytes after it
-spelled : (bytes line r : List ℕ) (j : ℕ) → j < length bytes → 2 * j + 1 < length line → drop (2 * (j + 1)) line ≡ digits (drop (j + 1) bytes) ++ r
-    → drop (2 * j) (set (set line (2 * j) (digit (get_or bytes j 0 / 16))) (2 * j + 1) (digit (get_or bytes j 0 % 16))) ≡ digits (drop j bytes) ++ r
+-- a byte's two digits, after those of the bytes before it
+digits_more : (bytes : List ℕ) (i : ℕ) → i < length bytes
+    → digits (take (suc i) bytes) ≡ digits (take i bytes) ++ (digit (get_or bytes i 0 / 16) ∷ (digit (get_or bytes i 0 % 16) ∷ []))
 unfolding digits
-spelled bytes line r j h l e =
-    let x = digit (get_or bytes j 0 / 16) in
-    let y = digit (get_or bytes j 0 % 16) in
-    let m = set (set line (2 * j) x) (2 * j + 1) y in
-    let a : 2 * j < length m = simp length-set (omega arith) in
-    let b : 2 * j + 1 < length m = simp length-set l in
-    let c : 2 * j + 1 < length (set line (2 * j) x) = simp length-set l in
-    let p : suc (2 * j) ≡ 2 * j + 1 = omega arith in
-    let q : suc (2 * j + 1) ≡ 2 * (j + 1) = omega arith in
-    let s : suc j ≡ j + 1 = omega arith in
-    let first : get_or m (2 * j) 0 ≡ x = get_or-set_other (set line (2 * j) x) (2 * j + 1) (2 * j) y 0 (λ k. omega arith) ∙ get_or-set_same line (2 * j) x 0 (omega arith) in
-    let second : get_or m (2 * j + 1) 0 ≡ y = get_or-set_same (set line (2 * j) x) (2 * j + 1) y 0 c in
-    let rest : drop (2 * (j + 1)) m ≡ digits (drop (j + 1) bytes) ++ r =
-    drop-set-lt (2 * (j + 1)) (set line (2 * j) x) (2 * j + 1) y (omega arith) ∙ drop-set-lt (2 * (j + 1)) line (2 * j) x (omega arith) ∙ e in
-    let bytes_are : drop j bytes ≡ get_or bytes j 0 ∷ drop (j + 1) bytes = drop-cons bytes j 0 h ∙ ap (λ (i : ℕ). get_or bytes j 0 ∷ drop i bytes) s in
-    drop-cons m (2 * j) 0 a
-    ∙ ap (λ (i : ℕ). get_or m (2 * j) 0 ∷ drop i m) p
-    ∙ ap (λ (u : List ℕ). get_or m (2 * j) 0 ∷ u) (drop-cons m (2 * j + 1) 0 b ∙ ap (λ (i : ℕ). get_or m (2 * j + 1) 0 ∷ drop i m) q)
-    ∙ rw (first, second, rest, bytes_are)
+digits_more [] i h = absurd (omega arith)
+digits_more (b ∷ bytes) zero h = refl
+digits_more (b ∷ bytes) (suc i) h = ap (λ (l : List ℕ). digit (b / 16) ∷ (digit (b % 16) ∷ l)) (digits_more bytes i (omega arith))
 
--- nothing before the first byte
-pub spelled_none : (bytes line : List ℕ) (n : ℕ) → length bytes ≤ n → drop (2 * n) line ≡ digits (drop n bytes) ++ drop (2 * n) line
+-- the first i bytes are spelled, and nothing else changes
+pub record Spelled (bytes line₀ line : List ℕ) (i : ℕ) : Type 0 where
+  pub front : take (2 * i) line ≡ digits (take i bytes)
+  pub rest : drop (2 * i) line ≡ drop (2 * i) line₀
+  pub same : length line ≡ length line₀
+
+pub spelled_none : (bytes line : List ℕ) → Spelled bytes line line 0
 unfolding digits
-spelled_none bytes line n h = rw (drop_of_length-le bytes h)
+spelled_none bytes line = record { front = refl; rest = refl; same = refl }
 
-pub low_digit : (n : ℕ) → n < 10 → 48 + n ≡ digit n
-unfolding digit
-low_digit n h = rw (lt-ltb n 10 h)
+pub spelled_more : (bytes line₀ line : List ℕ) (i x y : ℕ) → Spelled bytes line₀ line i → i < length bytes → 2 * i + 1 < length line
+    → x ≡ digit (get_or bytes i 0 / 16) → y ≡ digit (get_or bytes i 0 % 16) → Spelled bytes line₀ (set (set line (2 * i) x) (2 * i + 1) y) (i + 1)
+spelled_more bytes line₀ line i x y v h l p q =
+    let e : 2 * (i + 1) ≡ suc (2 * i + 1) = omega arith in
+    let f : 2 * i + 1 ≡ suc (2 * i) = omega arith in
+    let g : 2 * i + 2 ≡ 2 * (i + 1) = omega arith in
+    let a : 2 * i + 1 < length (set line (2 * i) x) = simp length-set l in
+    let one : take (2 * i + 1) (set line (2 * i) x) ≡ take (2 * i) line ++ (x ∷ []) = rw f (take-suc-set line (2 * i) x (omega arith)) in
+    record {
+      front =
+          ap (λ (n : ℕ). take n (set (set line (2 * i) x) (2 * i + 1) y)) e ∙ take-suc-set (set line (2 * i) x) (2 * i + 1) y a
+          ∙ rw (one, v.front, append_assoc, p, q, add-one) (sym (digits_more bytes i h));
+      rest =
+          drop-set-lt (2 * (i + 1)) (set line (2 * i) x) (2 * i + 1) y (omega arith) ∙ drop-set-lt (2 * (i + 1)) line (2 * i) x (omega arith)
+          ∙ ap (λ (n : ℕ). drop n line) (sym g) ∙ sym (drop-drop 2 (2 * i) line) ∙ ap (drop 2) v.rest ∙ drop-drop 2 (2 * i) line₀ ∙ ap (λ (n : ℕ). drop n line₀) g;
+      same = simp length-set v.same;
+    }
 
-pub high_digit : (n : ℕ) → 10 ≤ n → 87 + n ≡ digit n
-unfolding digit
-high_digit n h = rw (le-ltb n 10 h)
+-- all bytes
+pub spelled_all : (bytes line₀ line : List ℕ) (i : ℕ) → i ≡ length bytes → Spelled bytes line₀ line i → line ≡ digits bytes ++ drop (2 * length bytes) line₀
+spelled_all bytes line₀ line i e v =
+    let w : Spelled bytes line₀ line (length bytes) = subst (λ (n : ℕ). Spelled bytes line₀ line n) e v in
+    sym (take-append-drop (2 * length bytes) line) ∙ rw (w.front, w.rest, take-length bytes)
 
 -- the bytes of a rule lie within the array that they were written to
-pub bytes_within : (text out : List ℕ) {a : Encoded} {x : List ℕ} {n : ℕ} → whole_out a [] [] x ≡ rule_text text out → a ≡ Bytes n → (n ≤ length x) × (n ≤ 4096)
+pub bytes_within : (text out : List ℕ) {a : Encoded} {x : List ℕ} {n : ℕ} → whole_out a [] [] x ≡ rule_text text out → a ≡ Ok n → (n ≤ length x) × (n ≤ 4096)
 bytes_within text out {a} {x} {n} e q =
     let g = given_bytes_lem text out n (ap (λ (o : Outcome Encoded). o.answer) (sym e) ∙ q) in
     let f = ap length (ap (λ (o : Outcome Encoded). o.out) (e ∙ g.given)) in (
       omega (arith, g.counted, f, length-append (bytes (term_of g.reading)) (drop (length (bytes (term_of g.reading))) out)),
       omega (arith, g.counted, g.is_rule.short),
     )
-
--- one byte more, in the code's terms
-pub spelled_more : (bytes line r : List ℕ) (i x y : ℕ) → 0 < i → i ≤ length bytes → 2 * i ≤ length line → drop (2 * i) line ≡ digits (drop i bytes) ++ r
-    → x ≡ digit (get_or bytes (i - 1) 0 / 16) → y ≡ digit (get_or bytes (i - 1) 0 % 16)
-    → drop (2 * (i - 1)) (set (set line (2 * (i - 1)) x) (2 * (i - 1) + 1) y) ≡ digits (drop (i - 1) bytes) ++ r
-spelled_more bytes line r i x y g h l e p q =
-    let j : i ≡ i - 1 + 1 = omega arith in
-    let f : drop (2 * (i - 1 + 1)) line ≡ digits (drop (i - 1 + 1) bytes) ++ r = subst (λ (k : ℕ). drop (2 * k) line ≡ digits (drop k bytes) ++ r) j e in
-    rw (p, q) (spelled bytes line r (i - 1) (omega arith) (omega arith) f)
-
--- all bytes
-pub spelled_all : (bytes line r : List ℕ) (i : ℕ) → i ≡ 0 → drop (2 * i) line ≡ digits (drop i bytes) ++ r → line ≡ digits bytes ++ r
-spelled_all bytes line r i z e = subst (λ (k : ℕ). drop (2 * k) line ≡ digits (drop k bytes) ++ r) z e

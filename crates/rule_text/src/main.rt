@@ -5,18 +5,18 @@
 ghost use Rattle.std.specs.Prelude.{◌≡◌, ◌*◌, ◌≤◌, ◌<◌, ◌++◌, length, drop};
 ghost use Rattle.rule_text.specs.Line.{digit, digits};
 
-use grammar::Encoded;
 use std::io::{self, Write};
 
 // A hexadecimal digit.
+#[tactic(auto, unfolding(crate::specs::Line::digit))]
 fn digit(n: u8) -> u8
     requires { n < 16 }
     ensures { result ≡ digit n }
 {
     if n < 10 {
-        return 48 + n;
+        return b'0' + n;
     }
-    87 + n
+    b'a' - 10 + n
 }
 
 // Spells bytes in hexadecimal; how many digits they have.
@@ -24,15 +24,11 @@ fn spell(bytes: &[u8], line: &mut [u8]) -> usize
     requires { (length bytes.now ≤ 4096) × (2 * length bytes.now ≤ length line.old) }
     ensures { (result ≡ 2 * length bytes.now) × (line.new ≡ digits bytes.now ++ drop result line.old) }
 {
-    let n = bytes.len();
-    let mut i = n;
-    while 0 < i {
-        i -= 1;
-        let b = bytes[i];
-        line[2 * i] = digit(b / 16);
-        line[2 * i + 1] = digit(b % 16);
+    for i in 0..bytes.len() {
+        line[2 * i] = digit(bytes[i] / 16);
+        line[2 * i + 1] = digit(bytes[i] % 16);
     }
-    2 * n
+    2 * bytes.len()
 }
 
 // Writes a line.
@@ -43,15 +39,16 @@ fn print<W: Write>(output: &mut W, refusal: usize, text: &[u8]) -> io::Result<()
 }
 
 // Reads a text, with room for any rule.
+#[tactic(auto, using(crate::proofs::Spelling::bytes_within))]
 fn answer<W: Write>(output: &mut W, text: &[u8]) -> io::Result<()> {
     let mut out = [0u8; 4096];
     let mut line = [0u8; 8192];
     match rule_reader::rule_text(text, &mut out) {
-        Encoded::Bytes(n) => {
+        Ok(n) => {
             let m = spell(&out[..n], &mut line);
             print(output, 0, &line[..m])
         }
-        Encoded::Refused(refusal) => print(output, refusals::number(refusal), b"-"),
+        Err(refusal) => print(output, refusals::number(refusal), b"-"),
     }
 }
 
@@ -59,11 +56,9 @@ fn answer<W: Write>(output: &mut W, text: &[u8]) -> io::Result<()> {
 fn main(rt: HostRuntime) -> io::Result<()> {
     let mut input = [0u8; 8194];
     let n = streams::read_full(&mut rt.reader(), &mut input)?;
-    let mut output = io::writer(&rt);
-    if 0 < n {
-        if input[n - 1] == 10 {
-            return answer(&mut output, &input[..n - 1]);
-        }
-    }
-    answer(&mut output, &input[..n])
+    let text = &input[..n];
+    answer(
+        &mut io::writer(&rt),
+        text.strip_suffix(b"\n").unwrap_or(text),
+    )
 }
