@@ -1,4 +1,6 @@
 -- `apply::apply_checked` meets its contract: 3 for either number, then the application. Assumes nothing.
+use Rattle.applying.specs.Ended.{applied_of}
+use borrow.Author.Rules.{rules}
 use Rattle.apply.proofs.Entered.{within_limit, refuse_function, refuse_argument, by_nodes}
 use Rattle.apply.proofs.apply_checked.Goals as goal
 
@@ -18,7 +20,8 @@ apply_nodes-ended-requires c =
     (c.requires.0, c.if-used-function.false, c.if-used-argument.false, within_limit a.table.now a.used a.stack.now a.function a.argument a.limit c.requires.1)
 
 pub returns : goal.returns
+unfolding applied_of
 returns c =
     let a = c.args in
     by_nodes a.table.now a.used a.stack.now a.function a.argument a.limit c.requires.1 c.if-used-function.false c.if-used-argument.false c.apply_nodes-ended.ensures.0
-    c.applied.ensures
+    (search rules)
