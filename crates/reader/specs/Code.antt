@@ -1,9 +1,18 @@
 -- What the code's own values say in terms of the definitions, and what Read's inner functions ask. Assumes nothing: these are definitions.
 use Rattle.std.specs.Prelude.{ℕ, zero, suc, ◌-◌, ◌*◌, ◌≤◌, ◌<◌, ◌≡◌, List, [], ◌∷◌, length, get_or}
-use Rattle.std.proofs.Math.Option.{some}
+use Rattle.std.specs.Prelude as code
+use Rattle.std.specs.Prelude.{Some, None}
+use Rattle.std.proofs.Math.Option.{none, some}
 use Rattle.calculus.specs.Tree.{Tree}
 use Rattle.table.specs.Outcome.{frames}
 use Rattle.ternary.specs.Text.{tree_of, most_pending}
+use Rattle.ternary.specs.Read.{readable}
+use Rattle.whole_text.specs.Code.{ScanSays}
+
+-- what the test of a text says: the most trees pending, where Read takes it
+unfoldable pub PendingSays : List ℕ → code.Option ℕ → Type 0
+PendingSays l (Some m) = (length l ≤ 65535) × ScanSays l (Some m)
+PendingSays l None = readable l ≡ none
 
 -- the nodes in the lowest n frames of a stack, that of the last frame first
 unfoldable pub nodes_in : List ℕ → ℕ → List ℕ

@@ -9,16 +9,27 @@ ghost use Rattle.ternary.specs.Laying.{awaits, keep, lay_digit, lay_digits};
 ghost use Rattle.ternary.specs.Read.{readable, is_some, read_tree};
 ghost use Rattle.index.specs.Index.{Ready};
 ghost use Rattle.index.specs.Code.{got_by, ReadyGot, ReadyMade};
-ghost use Rattle.reader.specs.Code.{nodes_in, TakesDigit, LaysText};
+ghost use Rattle.reader.specs.Code.{nodes_in, PendingSays, TakesDigit, LaysText};
 
 use table::{Made, Refusal};
+
+// The most trees pending of a text that Read takes, at most 65,535 bytes and one whole tree.
+fn most_pending(text: &[u8]) -> Option<usize>
+    ensures { PendingSays text.now result }
+{
+    let n = text.len();
+    if n <= 65535 {
+        whole_text::scan(text)
+    } else {
+        None
+    }
+}
 
 // Whether a text is one that Read takes.
 pub fn is_text(text: &[u8]) -> bool
     ensures { result ≡ is_some (readable text.now) }
 {
-    let n = text.len();
-    n <= 65535 && whole_text::scan(text).is_some()
+    most_pending(text).is_some()
 }
 
 // The node of the digit c, whose branches are the last of the nodes pending, each in a frame.
@@ -90,10 +101,7 @@ pub fn read_text(
     ensures { (whole result table.new stack.new ≡ read_tree table.old used stack.old text.now (readable text.now))
         × ReadyMade result table.new slots index.new }
 {
-    if 65535 < text.len() {
-        return Err(Refusal::Text);
-    }
-    let most = whole_text::scan(text).ok_or(Refusal::Text)?;
+    let most = most_pending(text).ok_or(Refusal::Text)?;
     checks::check_frames(stack, most)?;
     let got = lay_text(table, used, stack, text, index, slots);
     index::settle(table, used, stack, got)

@@ -2,13 +2,8 @@
 use mathlib.Core.Path.{◌≡◌}
 use Rattle.std.proofs.lemmas.Result.{err_from_is_err_and}
 use Rattle.table.specs.declared.Refusal.TheVariants.{Text}
-use Rattle.reader.proofs.ReadWays.{too_long, no_tree, no_frames, lays_text, is_laid}
+use Rattle.reader.proofs.ReadWays.{no_tree, no_frames, lays_text, is_laid}
 use Rattle.reader.proofs.read_text.Goals as goal
-
-pub returns-then-text-gt65535 : goal.returns-then-text-gt65535
-returns-then-text-gt65535 c =
-    let a = c.args in
-    too_long a.table.now a.used a.stack.now a.text.now a.slots _ c.if-text-gt65535.true
 
 pub returns-in_err-most : goal.returns-in_err-most
 returns-in_err-most c =
@@ -17,26 +12,26 @@ returns-in_err-most c =
     let v = rw c.in_err-most.ensures.ok_part at c.in_err-most.ensures.value in
     let e : c.in_err-most.field-0.0 ≡ Text = cc in
     rw (p.1, p.2, e)
-    (no_tree a.table.now a.used a.stack.now a.text.now a.slots _ c.if-text-gt65535.false (rw c.in_err-most.ensures.ok_part at c.scan.ensures))
+    (no_tree a.table.now a.used a.stack.now a.text.now a.slots _ (rw c.in_err-most.ensures.ok_part at c.most_pending.ensures))
 
 pub returns-in_err-check_frames : goal.returns-in_err-check_frames
 returns-in_err-check_frames c =
     let a = c.args in
     let p = err_from_is_err_and c.from_residual-in_err-check_frames.result c.from_residual-in_err-check_frames.ensures.1 in
-    let m = rw c.in_ok-most.ensures.ok_part at c.scan.ensures in
+    let m = rw c.in_ok-most.ensures.ok_part at c.most_pending.ensures in
     rw (p.1, p.2)
-    (no_frames a.table.now a.used a.stack.now a.text.now a.slots _ c.if-text-gt65535.false _ m c.check_frames.ensures c.in_err-check_frames.was)
+    (no_frames a.table.now a.used a.stack.now a.text.now a.slots _ _ m c.check_frames.ensures c.in_err-check_frames.was)
 
 pub lay_text-got-requires : goal.lay_text-got-requires
 lay_text-got-requires c =
     let a = c.args in
-    let m = rw c.in_ok-most.ensures.ok_part at c.scan.ensures in
-    (c.requires, lays_text a.table.now a.used a.stack.now a.text.now a.slots a.index.now c.if-text-gt65535.false _ m c.check_frames.ensures c.in_ok-check_frames.was)
+    let m = rw c.in_ok-most.ensures.ok_part at c.most_pending.ensures in
+    (c.requires, lays_text a.table.now a.used a.stack.now a.text.now a.slots a.index.now _ m c.check_frames.ensures c.in_ok-check_frames.was)
 
 pub returns : goal.returns
 returns c =
     let a = c.args in
     let n = c.lay_text-got in
-    let m = rw c.in_ok-most.ensures.ok_part at c.scan.ensures in
-    is_laid a.table.now a.used a.stack.now a.text.now a.slots _ c.if-text-gt65535.false _ m c.check_frames.ensures c.in_ok-check_frames.was
+    let m = rw c.in_ok-most.ensures.ok_part at c.most_pending.ensures in
+    is_laid a.table.now a.used a.stack.now a.text.now a.slots _ _ m c.check_frames.ensures c.in_ok-check_frames.was
     n.result n.new.table _ n.ensures.0 n.ensures.1 n.auto.stack c.settle.ensures
