@@ -3,6 +3,7 @@ use Prim.Native.Nat.{ℕ, zero, suc, ◌+◌, ◌-◌, ◌*◌, ◌≤◌, ◌<�
 use mathlib.Core.Path.{◌≡◌, refl, sym, ap, ◌∙◌}
 use mathlib.Core.List.{List, [], ◌∷◌, ◌++◌}
 use native.Mathlib.Omega.{arith}
+use native.Mathlib.Numerals.{add-one}
 use lib.ListN.{length, get_or, set, length-append}
 use lib.Seq.{get_or-take}
 use Rattle.table.specs.Wrote.{Wrote}
@@ -97,29 +98,33 @@ module _ {n w v i : ℕ} {out : List ℕ} (k : RoomFor n w v out i) (e : n ≡ 0
       pub all_put : {p : ℕ} {out''' : List ℕ} → Wrote out'' q (forks n w v) p out''' → Wrote out i (values_from n w v) p out'''
       all_put c = rw (blocks n w v e f) (wrote_then _ _ _ _ _ _ _ _ l a (wrote_then _ _ _ _ _ _ _ _ m b c))
 
--- the trees of at most n nodes: those of fewer, then those of n
-to_more : (n : ℕ) → (n ≡ 0 → ⊥) → values_to n ≡ values_to (n - 1) ++ values_from n 1 0
+-- the trees of at most n + 1 nodes: those of at most n, then those of n + 1
+to_more : (n : ℕ) → values_to (n + 1) ≡ values_to n ++ values_from (n + 1) 1 0
 unfolding values_to
-to_more zero e = absurd (e refl)
-to_more (suc n) e = let a : suc n - 1 ≡ n = omega arith in rw a
+to_more n = rw (add-one n)
 
-pub no_trees_put : {n : ℕ} {out : List ℕ} → n ≡ 0 → Wrote out 0 (values_to n) 0 out
+to_longer : (n : ℕ) → length (values_to (n + 1)) ≡ length (values_to n) + length (values_from (n + 1) 1 0)
+to_longer n = ap length (to_more n) ∙ length-append (values_to n) (values_from (n + 1) 1 0)
+
+-- there are no fewer of more nodes
+to_grows : (n d : ℕ) → length (values_to n) ≤ length (values_to (n + d))
+to_grows n zero = let e : n + 0 ≡ n = omega arith in rw e (omega arith)
+to_grows n (suc d) = let e : n + suc d ≡ n + d + 1 = omega arith in rw e (omega (arith, to_grows n d, to_longer (n + d)))
+
+pub no_trees_put : (out : List ℕ) → Wrote out 0 (values_to 0) 0 out
 unfolding values_to
-no_trees_put {n} {out} e = rw e (wrote_none out 0 (omega arith))
+no_trees_put out = wrote_none out 0 (omega arith)
 
-module _ (n : ℕ) (out : List ℕ) (e : n ≡ 0 → ⊥) (h : length (values_to n) ≤ length out) (few : n ≤ 10) where
-  lengths_to : length (values_to n) ≡ length (values_to (n - 1)) + length (values_from n 1 0)
-  lengths_to = ap length (to_more n e) ∙ length-append (values_to (n - 1)) (values_from n 1 0)
+-- the trees of n + 1 nodes, after those of fewer
+module _ (n most : ℕ) (out : List ℕ) (h : length (values_to most) ≤ length out) (under : n < most) (few : most ≤ 10) {r : ℕ} {out' : List ℕ} (a : Wrote out 0 (values_to n) r out') (l : length out' ≡ length out) where
+  pub trees_ready : RoomFor (n + 1) 1 0 out' r
+  trees_ready =
+      let e : n + 1 + (most - (n + 1)) ≡ most = omega arith in
+      let k : length (values_to (n + 1)) ≤ length (values_to most) = rw e at (to_grows (n + 1) (most - (n + 1))) in
+      record { room = omega (arith, to_longer n, a.ends); ten_digits = padded_ten (n + 1) (omega arith); few = omega arith }
 
-  pub fewer_asks : (length (values_to (n - 1)) ≤ length out) × (n - 1 ≤ 10)
-  fewer_asks = (omega (arith, lengths_to), omega arith)
-
-  module _ {r : ℕ} {out' : List ℕ} (a : Wrote out 0 (values_to (n - 1)) r out') (l : length out' ≡ length out) where
-    pub trees_ready : RoomFor n 1 0 out' r
-    trees_ready = record { room = omega (arith, lengths_to, a.ends); ten_digits = padded_ten n few; few = omega arith }
-
-    pub trees_put : {q : ℕ} {out'' : List ℕ} → Wrote out' r (values_from n 1 0) q out'' → Wrote out 0 (values_to n) q out''
-    trees_put b = rw (to_more n e) (wrote_then _ _ _ _ _ _ _ _ l a b)
+  pub trees_put : {q : ℕ} {out'' : List ℕ} → Wrote out' r (values_from (n + 1) 1 0) q out'' → Wrote out 0 (values_to (n + 1)) q out''
+  trees_put b = rw (to_more n) (wrote_then _ _ _ _ _ _ _ _ l a b)
 
 -- there are as many as the program has room for
 pub all_many : length (values_to 10) ≡ 1374

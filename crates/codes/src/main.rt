@@ -30,16 +30,16 @@ fn put_values(n: usize, wanted: usize, value: usize, out: &mut [u32], at: usize)
     put_values(n - 1, wanted + 1, value * 3 + 2, out, after_stem)
 }
 
-// Puts the values of all trees of at most n nodes into out; how many there are.
-fn put_trees(n: usize, out: &mut [u32]) -> usize
-    requires { (length (values_to n) ≤ length out.old) × (n ≤ 10) }
-    ensures { Wrote out.old 0 (values_to n) result out.new }
+// Puts the values of all trees of at most `most` nodes into out; how many there are.
+fn put_trees(most: usize, out: &mut [u32]) -> usize
+    requires { (length (values_to most) ≤ length out.old) × (most ≤ 10) }
+    ensures { Wrote out.old 0 (values_to most) result out.new }
 {
-    if n == 0 {
-        return 0;
+    let mut at = 0;
+    for n in 0..most {
+        at = put_values(n + 1, 1, 0, out, at);
     }
-    let at = put_trees(n - 1, out);
-    put_values(n, 1, 0, out, at)
+    at
 }
 
 // Prints the values, one a line.
