@@ -7,27 +7,14 @@ ghost use Rattle.grammar.specs.Expression.{Expression};
 ghost use Rattle.grammar.specs.Postfix.{postfix, lead};
 ghost use Rattle.encoder.specs.Code.{Laid, EncodeAsks, EncodeAt, EncodeGives};
 
+use grammar::{ABSTRACTION, AND, APPLICATION, IMPLIES, NOT, OR, VARIABLE};
+
 // Where the symbols and the bytes of a written term begin.
 #[derive(Clone, Copy)]
 pub struct Begins {
     pub from: usize,
     pub at: usize,
 }
-
-// The symbols, which are the numbers of the definitions `postfix` and `lead` of the crate `grammar`: 6 is a leaf, and a variable is its number and `VARIABLE`.
-const APPLICATION: u16 = 0;
-
-const AND: u16 = 1;
-
-const OR: u16 = 2;
-
-const IMPLIES: u16 = 3;
-
-const ABSTRACTION: u16 = 4;
-
-const NOT: u16 = 5;
-
-const VARIABLE: u16 = 7;
 
 // Copies bytes to the place that ends at `o`; where they begin.
 fn put_before(out: &mut [u8], o: usize, bytes: &[u8]) -> usize

@@ -9,10 +9,11 @@ ghost use Rattle.grammar.specs.Reader.{nothing, empty, lookup, parse, operand};
 ghost use Rattle.grammar.specs.Words.{tokens};
 ghost use Rattle.parser.specs.Code.{place_of, IsName, IsBinder, RowAsks, Row, Asks, Tells, close_group};
 
-use operators::{
-    ABSTRACTION, AMPERSAND, ARROW, BACKSLASH, BANG, BAR, CARET, CLOSING, VARIABLE, LEAF,
-    OPENING, STOP, Step,
+use grammar::{
+    ABSTRACTION, AMPERSAND, ARROW, BACKSLASH, BANG, BAR, CARET, CLOSING, LEAF, OPENING, STOP,
+    VARIABLE,
 };
+use operators::Step;
 
 // What a phrase gives: the places after its words and after its symbols.
 #[derive(Clone, Copy)]

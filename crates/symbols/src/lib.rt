@@ -7,6 +7,8 @@ ghost use Rattle.grammar.specs.Expression.{Expression};
 ghost use Rattle.grammar.specs.Postfix.{postfix, lead, total, abstractions};
 ghost use Rattle.symbols.specs.Code.{NestsAsks, Nests};
 
+use grammar::{ABSTRACTION, AND, APPLICATION, IMPLIES, LEAF, NOT, OR};
+
 // How many bytes the term of symbols has, and how many of the symbols are abstractions.
 #[derive(Clone, Copy)]
 pub struct Sizes {
@@ -20,21 +22,6 @@ pub struct Nested {
     pub from: usize,
     pub depth: usize,
 }
-
-// The symbols, which are the numbers of the definitions `postfix` and `lead` of the crate `grammar`; a variable is any greater one.
-const APPLICATION: u16 = 0;
-
-const AND: u16 = 1;
-
-const OR: u16 = 2;
-
-const IMPLIES: u16 = 3;
-
-const ABSTRACTION: u16 = 4;
-
-const NOT: u16 = 5;
-
-const LEAF: u16 = 6;
 
 // How many bytes a symbol puts before its operands.
 fn lead_size(s: u16) -> usize

@@ -17,7 +17,7 @@ ghost use Rattle.text_reader.specs.Code.{Stands, StandsSome, WordRoom, TextRoom}
 use table::Refusal;
 
 // The symbols of a rule end with that of an abstraction.
-const LAST: u16 = operators::ABSTRACTION;
+const LAST: u16 = grammar::ABSTRACTION;
 
 // How many bytes a rule has at most.
 const MOST_BYTES: usize = 4096;
