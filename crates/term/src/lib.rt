@@ -22,6 +22,7 @@ ghost use Rattle.term.specs.Code.{LayAt, PlaceAt};
 use table::{Made, Refusal};
 
 // Lays out the tree whose term's words start at `p` of the stack: second branch, first branch, then the node, up to one that has no place.
+// A leaf's first word is 0 and a stem's is 2: the definition `words` gives these numbers.
 fn lay(
     stack: &[u32],
     p: usize,
