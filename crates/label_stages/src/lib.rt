@@ -12,8 +12,9 @@ ghost use Rattle.labelling.specs.LabelPacket.{labels, reads_label, labelling_sta
 ghost use Rattle.label_stages.specs.Asked.{Passed};
 
 use calculus::Uses;
+use packet::Part;
 use running::Ran;
-use table::Made;
+use table::Refusal;
 
 // Labels the rule's node with the label's, and writes the labelled tree.
 fn write_labelled(
@@ -25,19 +26,11 @@ fn write_labelled(
     label: usize,
     index: &mut [u16],
     slots: usize,
-) -> Ran
+) -> Result<Ran, Refusal>
     requires { Ready table.old used stack.old out.old × (rule < used) × (label < used) × indexing.Ready table.old used slots index.old }
     ensures { whole_out result table.new stack.new out.new
         ≡ labels table.old used stack.old out.old rule label }
 {
-    let made = label::label_rule(table, used, rule, label, index, slots);
-    let Made::Node {
-        node,
-        used: used_then,
-    } = made
-    else {
-        return endings::stop(table, used, stack, endings::made_refusal(made));
-    };
     let uses = Uses {
         leaf: 0,
         stem: 0,
@@ -45,7 +38,10 @@ fn write_labelled(
         spread: 0,
         triage: 0,
     };
-    endings::write_outcome(table, used_then, stack, out, node, uses)
+    match label::label_rule(table, used, rule, label, index, slots) {
+        Ok(made) => endings::write_outcome(table, made.used, stack, out, made.node, uses),
+        Err(e) => endings::stop(table, used, stack, e),
+    }
 }
 
 // Reads the label's text, the value of the field at a position of the packet.
@@ -59,23 +55,16 @@ fn read_label(
     rule: usize,
     index: &mut [u16],
     slots: usize,
-) -> Ran
+) -> Result<Ran, Refusal>
     requires { Ready table.old used stack.old out.old × (rule < used) × (end_at packet.now at ≤ length packet.now) × indexing.Ready table.old used slots index.old }
     ensures { whole_out result table.new stack.new out.new
         ≡ reads_label table.old used stack.old out.old rule (value_at packet.now at) }
 {
-    let part = packet::part_at(packet, at);
-    let start = part.start;
-    let end = part.end;
-    let made = reader::read_text(table, used, stack, &packet[start..end], index, slots);
-    let Made::Node {
-        node,
-        used: used_then,
-    } = made
-    else {
-        return endings::stop(table, used, stack, endings::made_refusal(made));
-    };
-    write_labelled(table, used_then, stack, out, rule, node, index, slots)
+    let Part { start, end } = packet::part_at(packet, at);
+    match reader::read_text(table, used, stack, &packet[start..end], index, slots) {
+        Ok(made) => write_labelled(table, made.used, stack, out, rule, made.node, index, slots),
+        Err(e) => endings::stop(table, used, stack, e),
+    }
 }
 
 // The stages on a packet that passed the checks and whose label's field stands at a position.
@@ -87,17 +76,16 @@ pub fn label_stages(
     at: usize,
     index: &mut [u16],
     slots: usize,
-) -> Ran
+) -> Result<Ran, Refusal>
     requires { Passed table.old stack.old out.old packet.now at × indexing.Ready table.old 0 slots index.old }
     ensures { whole_out result table.new stack.new out.new
         ≡ labelling_stages table.old stack.old out.old (value_at packet.now 0) (value_at packet.now at) }
 {
-    let part = packet::part_at(packet, 0);
-    let start = part.start;
-    let end = part.end;
-    let made = term::translate_rule(table, 0, stack, &packet[start..end], index, slots);
-    let Made::Node { node, used } = made else {
-        return endings::stop(table, 0, stack, endings::made_refusal(made));
-    };
-    read_label(table, used, stack, out, packet, at, node, index, slots)
+    let Part { start, end } = packet::part_at(packet, 0);
+    match term::translate_rule(table, 0, stack, &packet[start..end], index, slots) {
+        Ok(made) => read_label(
+            table, made.used, stack, out, packet, at, made.node, index, slots,
+        ),
+        Err(e) => endings::stop(table, 0, stack, e),
+    }
 }

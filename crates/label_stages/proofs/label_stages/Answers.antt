@@ -1,69 +1,28 @@
 -- `label_stages::label_stages` meets its contract. Assumes nothing.
-use mathlib.Core.Path.{◌∙◌}
-use native.Mathlib.Omega.{arith}
 use Rattle.packet.specs.Code.{value_at}
 use Rattle.packet.proofs.Parts.{part_value}
 use Rattle.index.proofs.Ready.{made_ready}
-use Rattle.endings.proofs.Ways.{made_not, translate_ready}
+use Rattle.endings.proofs.Ways.{translate_ready}
 use Rattle.label_stages.proofs.Ways.{stages_stop, stages_next}
 use Rattle.label_stages.proofs.label_stages.Goals as goal
 
-pub part_at-part-requires : goal.part_at-part-requires
-part_at-part-requires c = omega (arith, c.requires.0.rule_stands)
-
-pub slice_bounds-translate_rule-count : goal.slice_bounds-translate_rule-count
-slice_bounds-translate_rule-count c = rw c.part_at-part.ensures (omega (arith, c.requires.0.rule_stands))
-
-pub slice_bounds-translate_rule-start : goal.slice_bounds-translate_rule-start
-slice_bounds-translate_rule-start c = rw c.part_at-part.ensures (omega (arith, c.requires.0.rule_stands))
-
-pub slice_bounds-translate_rule-end : goal.slice_bounds-translate_rule-end
-slice_bounds-translate_rule-end c = rw c.part_at-part.ensures (omega (arith, c.requires.0.rule_stands))
-
-pub translate_rule-made-requires : goal.translate_rule-made-requires
-translate_rule-made-requires c = (c.requires.1, c.requires.0.ready.stack)
-
-pub made_refusal-requires : goal.made_refusal-requires
-made_refusal-requires c = made_not c.in_default.is
-
-pub shape_of-table-in_default : goal.shape_of-table-in_default
-shape_of-table-in_default c = c.stop.auto.table ∙ c.translate_rule-made.auto.table
-
-pub shape_of-stack-in_default : goal.shape_of-stack-in_default
-shape_of-stack-in_default c = c.stop.auto.stack ∙ c.translate_rule-made.auto.stack
-
-pub shape_of-index-in_default : goal.shape_of-index-in_default
-shape_of-index-in_default c = c.translate_rule-made.auto.index
-
-pub returns-in_default : goal.returns-in_default
-returns-in_default c =
+pub returns-in-Err : goal.returns-in-Err
+returns-in-Err c =
     let a = c.args in
     let l = a.packet.now in
-    stages_stop c.requires.0.ready (value_at l 0) (value_at l a.at) (rw (c.part_at-part.ensures, part_value l 0) at c.translate_rule-made.ensures.0)
-    c.made_refusal.ensures (c.stop.ensures _)
+    stages_stop c.requires.0.ready (value_at l 0) (value_at l a.at) (rw (c.part_at-start.ensures, part_value l 0) at c.translate_rule.ensures.0)
+    c.in-Err.is (c.stop.ensures _)
 
 pub read_label-requires : goal.read_label-requires
 read_label-requires c =
     let l = c.args.packet.now in
     let p = c.requires.0 in
-    let r = translate_ready p.ready (value_at l 0) (rw (c.part_at-part.ensures, part_value l 0) at c.translate_rule-made.ensures.0) c.in-Node.is c.translate_rule-made.auto.stack in
-    (r.0, r.1, p.label_stands, made_ready c.translate_rule-made.ensures.1 c.in-Node.is)
+    let r = translate_ready p.ready (value_at l 0) (rw (c.part_at-start.ensures, part_value l 0) at c.translate_rule.ensures.0) c.in-Ok.is c.translate_rule.auto.stack in
+    (r.0, r.1, p.label_stands, made_ready c.translate_rule.ensures.1 c.in-Ok.is)
 
-pub shape_of-table : goal.shape_of-table
-shape_of-table c = c.read_label.auto.table ∙ c.translate_rule-made.auto.table
-
-pub shape_of-stack : goal.shape_of-stack
-shape_of-stack c = c.read_label.auto.stack ∙ c.translate_rule-made.auto.stack
-
-pub shape_of-out : goal.shape_of-out
-shape_of-out c = c.read_label.auto.out
-
-pub shape_of-index : goal.shape_of-index
-shape_of-index c = c.read_label.auto.index ∙ c.translate_rule-made.auto.index
-
-pub returns : goal.returns
-returns c =
+pub returns-in-Ok : goal.returns-in-Ok
+returns-in-Ok c =
     let a = c.args in
     let l = a.packet.now in
-    stages_next c.requires.0.ready (value_at l 0) (value_at l a.at) (rw (c.part_at-part.ensures, part_value l 0) at c.translate_rule-made.ensures.0)
-    c.in-Node.is c.read_label.ensures
+    stages_next c.requires.0.ready (value_at l 0) (value_at l a.at) (rw (c.part_at-start.ensures, part_value l 0) at c.translate_rule.ensures.0)
+    c.in-Ok.is c.read_label.ensures
