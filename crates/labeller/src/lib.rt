@@ -6,164 +6,68 @@
 // which the shorter tables then do not touch.
 #![tactic(auto)]
 
-ghost use Rattle.std.specs.Prelude.{◌≡◌, true, ℕ, ◌≤◌, length};
+ghost use Rattle.std.specs.Prelude.{◌≡◌, ◌≤◌, ◌*◌, ◌/◌, length};
 ghost use Rattle.table.specs.Outcome.{whole_out};
-ghost use Rattle.fields.specs.Packet as reading;
-ghost use Rattle.packet.specs.Code.{form_of};
-ghost use Rattle.running.specs.Run.{lengths_fit};
-ghost use Rattle.labelling.specs.LabelPacket.{label_packet};
+ghost use Rattle.packet.specs.Code.{value_at};
+ghost use Rattle.labelling.specs.LabelPacket.{labelling_stages, label_packet};
+ghost use Rattle.label_stages.specs.Asked.{Passed};
 
-use checks::Checked;
-use packet::Form;
 use running::Ran;
 use table::Refusal;
 
-// A whole packet that has a label, with a table of at most 64 nodes: 5 and 4, and then the stages.
-fn label_64(
+// The stages on a packet that passed the checks and whose label's field stands at a position, with an index of N places, two thirds of them slots, for a
+// table of half as many nodes.
+fn label_in<const N: usize>(
     table: &mut [u32],
     stack: &mut [u32],
     out: &mut [u8],
     packet: &[u8],
-    count: usize,
-    size: usize,
-) -> Ran
-    requires { (length table.old ≤ 128) × (lengths_fit table.old stack.old out.old ≡ true)
-        × (size ≡ 0 → ⊥) × ((limit : ℕ) × (Form.Whole count limit size ≡ form_of (reading.packet packet.now))) }
+    at: usize,
+) -> Result<Ran, Refusal>
+    requires { (3 ≤ N) × (N ≤ 196608) × (length table.old ≤ N / 3 * 2) × Passed table.old stack.old out.old packet.now at }
     ensures { whole_out result table.new stack.new out.new
-        ≡ label_packet table.old stack.old out.old packet.now }
+        ≡ labelling_stages table.old stack.old out.old (value_at packet.now 0) (value_at packet.now at) }
 {
-    let checked = packet_checks::check_parts(packet, count, size);
-    if let Checked::Refused(refusal) = checked {
-        return Ran::Refused(refusal);
-    }
-    let at = packet.len() - size;
-    let mut index = [0u16; 192];
-    label_stages::label_stages(table, stack, out, packet, at, &mut index, 128)
+    let mut index = [0u16; N];
+    label_stages::label_stages(table, stack, out, packet, at, &mut index, N / 3 * 2)
 }
 
-// A whole packet that has a label, with a table of at most 256 nodes: 5 and 4, and then the stages.
-fn label_256(
+// The same, with an index for the table's length.
+fn label_checked(
     table: &mut [u32],
     stack: &mut [u32],
     out: &mut [u8],
     packet: &[u8],
-    count: usize,
-    size: usize,
-) -> Ran
-    requires { (length table.old ≤ 512) × (lengths_fit table.old stack.old out.old ≡ true)
-        × (size ≡ 0 → ⊥) × ((limit : ℕ) × (Form.Whole count limit size ≡ form_of (reading.packet packet.now))) }
+    at: usize,
+) -> Result<Ran, Refusal>
+    requires { Passed table.old stack.old out.old packet.now at }
     ensures { whole_out result table.new stack.new out.new
-        ≡ label_packet table.old stack.old out.old packet.now }
+        ≡ labelling_stages table.old stack.old out.old (value_at packet.now 0) (value_at packet.now at) }
 {
-    let checked = packet_checks::check_parts(packet, count, size);
-    if let Checked::Refused(refusal) = checked {
-        return Ran::Refused(refusal);
+    match table.len() {
+        0..=128 => label_in::<192>(table, stack, out, packet, at),
+        ..=512 => label_in::<768>(table, stack, out, packet, at),
+        ..=2048 => label_in::<3072>(table, stack, out, packet, at),
+        ..=16384 => label_in::<24576>(table, stack, out, packet, at),
+        _ => label_in::<196608>(table, stack, out, packet, at),
     }
-    let at = packet.len() - size;
-    let mut index = [0u16; 768];
-    label_stages::label_stages(table, stack, out, packet, at, &mut index, 512)
-}
-
-// A whole packet that has a label, with a table of at most 1,024 nodes: 5 and 4, and then the stages.
-fn label_1024(
-    table: &mut [u32],
-    stack: &mut [u32],
-    out: &mut [u8],
-    packet: &[u8],
-    count: usize,
-    size: usize,
-) -> Ran
-    requires { (length table.old ≤ 2048) × (lengths_fit table.old stack.old out.old ≡ true)
-        × (size ≡ 0 → ⊥) × ((limit : ℕ) × (Form.Whole count limit size ≡ form_of (reading.packet packet.now))) }
-    ensures { whole_out result table.new stack.new out.new
-        ≡ label_packet table.old stack.old out.old packet.now }
-{
-    let checked = packet_checks::check_parts(packet, count, size);
-    if let Checked::Refused(refusal) = checked {
-        return Ran::Refused(refusal);
-    }
-    let at = packet.len() - size;
-    let mut index = [0u16; 3072];
-    label_stages::label_stages(table, stack, out, packet, at, &mut index, 2048)
-}
-
-// A whole packet that has a label, with a table of at most 8,192 nodes: 5 and 4, and then the stages.
-fn label_8192(
-    table: &mut [u32],
-    stack: &mut [u32],
-    out: &mut [u8],
-    packet: &[u8],
-    count: usize,
-    size: usize,
-) -> Ran
-    requires { (length table.old ≤ 16384) × (lengths_fit table.old stack.old out.old ≡ true)
-        × (size ≡ 0 → ⊥) × ((limit : ℕ) × (Form.Whole count limit size ≡ form_of (reading.packet packet.now))) }
-    ensures { whole_out result table.new stack.new out.new
-        ≡ label_packet table.old stack.old out.old packet.now }
-{
-    let checked = packet_checks::check_parts(packet, count, size);
-    if let Checked::Refused(refusal) = checked {
-        return Ran::Refused(refusal);
-    }
-    let at = packet.len() - size;
-    let mut index = [0u16; 24576];
-    label_stages::label_stages(table, stack, out, packet, at, &mut index, 16384)
-}
-
-// A whole packet that has a label, with a table of at most 65,536 nodes: 5 and 4, and then the stages.
-fn label_65536(
-    table: &mut [u32],
-    stack: &mut [u32],
-    out: &mut [u8],
-    packet: &[u8],
-    count: usize,
-    size: usize,
-) -> Ran
-    requires { (length table.old ≤ 131072) × (lengths_fit table.old stack.old out.old ≡ true)
-        × (size ≡ 0 → ⊥) × ((limit : ℕ) × (Form.Whole count limit size ≡ form_of (reading.packet packet.now))) }
-    ensures { whole_out result table.new stack.new out.new
-        ≡ label_packet table.old stack.old out.old packet.now }
-{
-    let checked = packet_checks::check_parts(packet, count, size);
-    if let Checked::Refused(refusal) = checked {
-        return Ran::Refused(refusal);
-    }
-    let at = packet.len() - size;
-    let mut index = [0u16; 196608];
-    label_stages::label_stages(table, stack, out, packet, at, &mut index, 131072)
 }
 
 // Writes the labelled rule of a packet, with the table taken as empty; arguments are passed over.
-pub fn label_packet(table: &mut [u32], stack: &mut [u32], out: &mut [u8], packet: &[u8]) -> Ran
+pub fn label_packet(
+    table: &mut [u32],
+    stack: &mut [u32],
+    out: &mut [u8],
+    packet: &[u8],
+) -> Result<Ran, Refusal>
     ensures { whole_out result table.new stack.new out.new
         ≡ label_packet table.old stack.old out.old packet.now }
 {
     if !packet_checks::lengths_fit(table, stack, out) {
-        return Ran::Refused(Refusal::Limits);
+        return Err(Refusal::Limits);
     }
-    let Form::Whole {
-        arguments,
-        limit: _,
-        label_size,
-    } = packet::read_packet(packet)
-    else {
-        return Ran::Refused(Refusal::Packet);
-    };
-    if label_size == 0 {
-        return Ran::Refused(Refusal::Packet);
-    }
-    let n = table.len();
-    if n <= 128 {
-        return label_64(table, stack, out, packet, arguments, label_size);
-    }
-    if n <= 512 {
-        return label_256(table, stack, out, packet, arguments, label_size);
-    }
-    if n <= 2048 {
-        return label_1024(table, stack, out, packet, arguments, label_size);
-    }
-    if n <= 16384 {
-        return label_8192(table, stack, out, packet, arguments, label_size);
-    }
-    label_65536(table, stack, out, packet, arguments, label_size)
+    let form = packet::read_packet(packet).ok_or(Refusal::Packet)?;
+    let size = form.label_size.ok_or(Refusal::Packet)?;
+    packet_checks::check_parts(packet, form)?;
+    label_checked(table, stack, out, packet, packet.len() - size)
 }
