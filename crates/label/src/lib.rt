@@ -106,7 +106,6 @@ pub fn label_rule(
     requires { Ready table.old used slots index.old × (rule < used) × (label < used) }
     ensures { (whole result table.new [] ≡ labelling.label_rule table.old used rule label) × ReadyMade result table.new slots index.new }
 {
-    let mut none: [u32; 0] = [];
     let got = make_nodes(table, used, rule, label, index, slots);
-    index::settle(table, used, &mut none, got)
+    index::settle(table, used, &mut [], got)
 }

@@ -37,6 +37,7 @@ fn week_of(numbers: &[u32]) -> Result<[[Window; 4]; 7], Refusal>
     if numbers.len() != 84 {
         return Err(Refusal::Week);
     }
+    // The check infers no clauses of this closure, so they are written.
     let day = |d: usize| -> [Window; 4]
         requires { 12 * d + 12 ≤ length numbers.now }
         ensures { result ≡ day_of numbers.entry.now (12 * d) }
