@@ -15,18 +15,18 @@ overflow_mul-nodes c =
     let k = has_rule _ c.rule_size.ensures c.in_ok-nodes.ensures.value in
     omega (arith, k.most)
 
-pub returns-in_err-check_frames : goal.returns-in_err-check_frames
-returns-in_err-check_frames c =
-    let p = err_from_is_err_and c.from_residual-in_err-check_frames.result c.from_residual-in_err-check_frames.ensures.1 in
+pub returns-in_err-frames : goal.returns-in_err-frames
+returns-in_err-frames c =
+    let p = err_from_is_err_and c.from_residual-in_err-frames.result c.from_residual-in_err-frames.ensures.1 in
     let k = has_rule _ c.rule_size.ensures c.in_ok-nodes.ensures.value in
-    rw (p.1, p.2) (refuses _ _ _ _ (few_frames _ _ _ _ k c.in_err-check_frames.ensures))
+    rw (p.1, p.2) (refuses _ _ _ _ (few_frames _ _ _ _ k (rw c.in_err-frames.was at c.check_frames-frames.ensures)))
 
 pub place-requires : goal.place-requires
 place-requires c =
     let k = has_rule _ c.rule_size.ensures c.in_ok-nodes.ensures.value in
-    (c.requires.0, in_place c.args.table.now c.args.used _ _ k c.in_ok-check_frames.ensures c.requires.1)
+    (c.requires.0, in_place c.args.table.now c.args.used _ _ k (rw c.in_ok-frames.was at c.check_frames-frames.ensures) c.requires.1)
 
 pub returns : goal.returns
 returns c =
     let k = has_rule _ c.rule_size.ensures c.in_ok-nodes.ensures.value in
-    (of_place _ _ _ _ k c.in_ok-check_frames.ensures _ c.place.ensures.0, c.place.ensures.1)
+    (of_place _ _ _ _ k (rw c.in_ok-frames.was at c.check_frames-frames.ensures) _ c.place.ensures.0, c.place.ensures.1)
