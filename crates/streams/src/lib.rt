@@ -5,7 +5,7 @@ ghost use Rattle.std.specs.Prelude.{◌≤◌, length, IfOk};
 
 use std::io::{self, Read};
 
-// Reads until buf is full or the input ends; how many bytes it put at the start of buf.
+// Reads until buf is full or the input ends; how many bytes it put at the start of buf. The library's `read_exact` fails where the input ends first.
 pub fn read_full<R: Read>(reader: &mut R, buf: &mut [u8]) -> io::Result<usize>
     ensures { IfOk result (λ n. n ≤ length buf.new) }
 {

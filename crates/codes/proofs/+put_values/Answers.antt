@@ -34,9 +34,6 @@ pub put_values-after_stem-requires : goal.put_values-after_stem-requires
 put_values-after_stem-requires t c =
     (omega (arith, c.if-n-eq0.false), stems_ready c.requires c.if-n-eq0.false c.if-wanted-eq0-2.false c.put_values-after_leaf.ensures c.put_values-after_leaf.auto.out)
 
-pub overflow_add-wanted : goal.overflow_add-wanted
-overflow_add-wanted t c = omega (arith, c.requires.few)
-
 pub overflow_mul-value-3 : goal.overflow_mul-value-3
 overflow_mul-value-3 t c = omega (arith, value_bound _ _ c.requires.ten_digits)
 

@@ -2,14 +2,11 @@
 -- load. Assumes nothing.
 use native.Mathlib.Omega.{arith}
 use Prim.Native.Nat.{◌-◌}
-use Rattle.generator.proofs.Writing.{writing_start, digit_ends, wants_one, writing_digit, writing_done}
+use Rattle.generator.proofs.Writing.{writing_start, wants_one, writing_digit, writing_done}
 use Rattle.generator.proofs.write_load.Goals as goal
 
 pub loop-digit-init : goal.loop-digit-init
 loop-digit-init c = record { left = omega arith; writing = writing_start _ _ c.requires.0 }
-
-pub branches-b-requires : goal.branches-b-requires
-branches-b-requires c = digit_ends c.loop-digit.invariant.writing (c.loop-digit.left - 1) (omega arith)
 
 pub overflow_sub-wanted : goal.overflow_sub-wanted
 overflow_sub-wanted c = (wants_one c.loop-digit.invariant.writing (c.loop-digit.left - 1) (omega arith)).0
