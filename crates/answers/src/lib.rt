@@ -11,82 +11,80 @@ ghost use Rattle.running.specs.Run as running;
 ghost use Rattle.grammar.specs.Outcome as grammar;
 ghost use Rattle.answers.specs.Listed.{listed};
 
-use grammar::Encoded;
-use labelled::Unlabelled;
+use labelled::Parts;
 use running::Ran;
-use table::{Compared, Made, Refusal};
-use ternary::Written;
+use table::{Made, Refusal};
 
 // The numbers of a refusal, with `used` as at entry.
+#[tactic(auto, unfolding(table::specs::Refusal::refused_numbers))]
 fn refused(used: usize, refusal: Refusal) -> [usize; 5]
     ensures { result ≡ listed (refused_numbers used refusal) }
 {
-    let n = refusals::number(refusal);
-    [n, 0, used, 0, 0]
+    [refusals::number(refusal), 0, used, 0, 0]
 }
 
 // The numbers of the answer of Read, Translate and Label.
-pub fn made(used: usize, answer: Made) -> [usize; 5]
+#[tactic(auto, unfolding(table::specs::Refusal::made_numbers))]
+pub fn made(used: usize, answer: Result<Made, Refusal>) -> [usize; 5]
     ensures { result ≡ listed (made_numbers used answer) }
 {
     match answer {
-        Made::Node { node, used: grown } => [0, node, grown, 0, 0],
-        Made::Refused(refusal) => refused(used, refusal),
+        Ok(made) => [0, made.node, made.used, 0, 0],
+        Err(refusal) => refused(used, refusal),
     }
 }
 
 // The numbers of Write's answer.
-pub fn written(used: usize, answer: Written) -> [usize; 5]
+#[tactic(auto, unfolding(ternary::specs::Write::written_numbers))]
+pub fn written(used: usize, answer: Result<usize, Refusal>) -> [usize; 5]
     ensures { result ≡ listed (writing.written_numbers used answer) }
 {
     match answer {
-        Written::Digits(digits) => [0, 0, used, 0, digits],
-        Written::Refused(refusal) => refused(used, refusal),
+        Ok(digits) => [0, 0, used, 0, digits],
+        Err(refusal) => refused(used, refusal),
     }
 }
 
 // The numbers of the answer of `label_packet`, which is Run's without its uses.
-pub fn labelled(answer: Ran) -> [usize; 5]
+#[tactic(auto, unfolding(running::specs::Run::ran_numbers))]
+pub fn labelled(answer: Result<Ran, Refusal>) -> [usize; 5]
     ensures { result ≡ listed (running.ran_numbers answer) }
 {
     match answer {
-        Ran::Text {
-            steps,
-            used,
-            digits,
-            uses: _,
-        } => [0, 0, used, steps, digits],
-        Ran::Refused(refusal) => refused(0, refusal),
+        Ok(ran) => [0, 0, ran.used, ran.steps, ran.digits],
+        Err(refusal) => refused(0, refusal),
     }
 }
 
 // The numbers of the answer to a labelled tree.
-pub fn unlabelled(used: usize, answer: Unlabelled) -> [usize; 6]
+#[tactic(auto, unfolding(labelled::specs::Unlabel::unlabelled_numbers))]
+pub fn unlabelled(used: usize, answer: Result<Parts, Refusal>) -> [usize; 6]
     ensures { result ≡ unlabelling.unlabelled_numbers used answer }
 {
     match answer {
-        Unlabelled::Parts { rule, label } => [0, rule, used, 0, 0, label],
-        Unlabelled::Refused(refusal) => [refusals::number(refusal), 0, used, 0, 0, 0],
+        Ok(Parts { rule, label }) => [0, rule, used, 0, 0, label],
+        Err(refusal) => [refusals::number(refusal), 0, used, 0, 0, 0],
     }
 }
 
 // The numbers of the answer to a rule text.
-pub fn encoded(answer: Encoded) -> [usize; 2]
+#[tactic(auto, unfolding(grammar::specs::Outcome::encoded_numbers))]
+pub fn encoded(answer: Result<usize, Refusal>) -> [usize; 2]
     ensures { result ≡ grammar.encoded_numbers answer }
 {
     match answer {
-        Encoded::Bytes(n) => [0, n],
-        Encoded::Refused(refusal) => [refusals::number(refusal), 0],
+        Ok(n) => [0, n],
+        Err(refusal) => [refusals::number(refusal), 0],
     }
 }
 
 // The numbers of the answer of `same`.
-pub fn compared(answer: Compared) -> [usize; 2]
+#[tactic(auto, unfolding(table::specs::Same::same_numbers))]
+pub fn compared(answer: Result<bool, Refusal>) -> [usize; 2]
     ensures { result ≡ same_numbers answer }
 {
     match answer {
-        Compared::Equal => [0, 1],
-        Compared::Different => [0, 0],
-        Compared::Refused(refusal) => [refusals::number(refusal), 0],
+        Ok(equal) => [0, usize::from(equal)],
+        Err(refusal) => [refusals::number(refusal), 0],
     }
 }

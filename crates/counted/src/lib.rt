@@ -14,12 +14,12 @@ use calculus::Uses;
 use running::Ran;
 use table::Refusal;
 
-// The numbers of a refusal, with `used` as at entry: no uses are told.
+// The numbers of a refusal, with `used` as at entry: no uses are told. Ten numbers written out, which is plainer than copying five of a function for both.
+#[tactic(auto, unfolding(table::specs::Refusal::refused_numbers))]
 fn refused_uses(used: usize, refusal: Refusal) -> [usize; 10]
     ensures { result ≡ listed_uses (refused_numbers used refusal) no_uses }
 {
-    let n = refusals::number(refusal);
-    [n, 0, used, 0, 0, 0, 0, 0, 0, 0]
+    [refusals::number(refusal), 0, used, 0, 0, 0, 0, 0, 0, 0]
 }
 
 // The ten numbers of an answer of Apply or Run that is no refusal.
@@ -41,31 +41,23 @@ fn completed(node: usize, used: usize, steps: usize, digits: usize, uses: Uses) 
 }
 
 // The numbers of Apply's answer.
-pub fn applied(used: usize, answer: Applied) -> [usize; 10]
+#[tactic(auto, unfolding(applying::specs::Apply::applied_numbers, applying::specs::Apply::applied_uses))]
+pub fn applied(used: usize, answer: Result<Applied, Refusal>) -> [usize; 10]
     ensures { result ≡ listed_uses (applying.applied_numbers used answer) (applying.applied_uses answer) }
 {
     match answer {
-        Applied::Node {
-            node,
-            used: grown,
-            steps,
-            uses,
-        } => completed(node, grown, steps, 0, uses),
-        Applied::Refused(refusal) => refused_uses(used, refusal),
+        Ok(done) => completed(done.node, done.used, done.steps, 0, done.uses),
+        Err(refusal) => refused_uses(used, refusal),
     }
 }
 
 // The numbers of Run's answer.
-pub fn ran(answer: Ran) -> [usize; 10]
+#[tactic(auto, unfolding(running::specs::Run::ran_numbers, running::specs::Run::ran_uses))]
+pub fn ran(answer: Result<Ran, Refusal>) -> [usize; 10]
     ensures { result ≡ listed_uses (running.ran_numbers answer) (running.ran_uses answer) }
 {
     match answer {
-        Ran::Text {
-            steps,
-            used,
-            digits,
-            uses,
-        } => completed(0, used, steps, digits, uses),
-        Ran::Refused(refusal) => refused_uses(0, refusal),
+        Ok(ran) => completed(0, ran.used, ran.steps, ran.digits, ran.uses),
+        Err(refusal) => refused_uses(0, refusal),
     }
 }

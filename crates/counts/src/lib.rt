@@ -14,7 +14,7 @@ pub fn sum(uses: Uses) -> usize
     uses.leaf + uses.stem + uses.drop + uses.spread + uses.triage
 }
 
-// The counts of both, rule by rule.
+// The counts of both, rule by rule. A function, not an `impl Add for Uses`, since neither the trait nor the type is of this crate.
 pub fn plus(a: Uses, b: Uses) -> Uses
     requires { steps a + steps b ≤ 1000000 }
     ensures { result ≡ a ⊕ b }
