@@ -12,9 +12,7 @@ use Rattle.std.specs.List.{push}
 use borrow.Author.Tests.{eqb-true, eq-eqb, ne_eqb}
 use Rattle.calculus.specs.Tree.{Tree}
 use Rattle.table.specs.Nodes.{Table, Making, capacity, make}
-use Rattle.table.specs.Claims.{Unbroken}
 use Rattle.table.proofs.Words.{zero_one}
-use Rattle.table.proofs.Making.{stem_words, fork_words}
 use Rattle.ternary.specs.Text.{take_leaf, take_stem, take_fork, take_digit, pending, many_pending, most_pending}
 use Rattle.ternary.specs.Laying.{awaits, no_place, keep, want_leaf, want_stem, want_fork, lay_digit, lay_digits, HaveTrees, no_nodes, one_more}
 use Rattle.ternary.proofs.OneText.{whole_pending}
@@ -91,16 +89,6 @@ module _ (t : Table) (s : List ℕ) (held c : ℕ) where
       let e : c ≡ 50 = omega (arith, x.from_leaf, x.to_fork) in
       let k = fork_branches c held e x.branches in
       rw (k.1, p, a, b, nodes_two s held k.0, ne_eqb c 48 n, ne_eqb c 49 m, eq-eqb c 50 e)
-
--- its words are those of nodes in use
-module _ {u : ℕ} {s : List ℕ} {held c : ℕ} (x : TakesDigit u s held c) where
-  pub stem_wants : (c ≡ 48 → ⊥) → {a : ℕ} → a ≡ get_or s ((held - 1) * 3) 0 → Unbroken u (a + 1) 0
-  stem_wants n q = stem_words (omega (arith, x.in_use (held - 1) (omega (arith, x.from_leaf, x.branches))))
-
-  pub fork_wants : (c ≡ 48 → ⊥) → (c ≡ 49 → ⊥) → {a b : ℕ} → a ≡ get_or s ((held - 1) * 3) 0 → b ≡ get_or s ((held - 2) * 3) 0 → Unbroken u (a + 1) (b + 1)
-  fork_wants n m p q =
-      fork_words (omega (arith, x.in_use (held - 1) (omega (arith, x.from_leaf, x.branches))))
-      (omega (arith, x.in_use (held - 2) (omega (arith, x.from_leaf, x.branches))))
 
 -- ---- a whole text
 

@@ -47,8 +47,8 @@ fn lay_digit(
         ≡ lay_digit c (awaits (record { words = table.old; used = used }) (nodes_in stack.now held))) × ReadyGot result table.new slots index.new }
 {
     match c {
-        48 => index::make(table, used, index, slots, 0, 0),
-        49 => {
+        b'0' => index::make(table, used, index, slots, 0, 0),
+        b'1' => {
             let p = nodes::word(stack, (held - 1) * 3) + 1;
             index::make(table, used, index, slots, p, 0)
         }
@@ -78,7 +78,7 @@ fn lay_text(
     for &c in text.iter().rev() {
         let made = lay_digit(table, used_now, stack, held, c, index, slots)?;
         used_now = made.used;
-        held -= c as usize - 48;
+        held -= (c - b'0') as usize;
         stack[held * 3] = made.node as u32;
         held += 1;
     }

@@ -13,9 +13,9 @@ fn wanted_after(c: u8, n: usize) -> Option<usize>
     ensures { wanted_of result ≡ wanted_after c (some n) }
 {
     let branches = match c {
-        48 => 0, // a leaf takes one away
-        49 => 1, // a stem leaves the number
-        50 => 2, // a fork adds one
+        b'0' => 0, // a leaf takes one away
+        b'1' => 1, // a stem leaves the number
+        b'2' => 2, // a fork adds one
         _ => return None,
     };
     Some(n.checked_sub(1)? + branches)

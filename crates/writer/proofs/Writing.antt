@@ -75,9 +75,6 @@ holds_set w u s (x ∷ xs) k v h o =
 -- ---- what each digit says
 
 module _ {w : List ℕ} {u : ℕ} {s : List ℕ} {k : Walk} {x : Tree} {xs : List Tree} (o : Stands w u s k x xs) where
-  pub room_at : k.at * 2 + 1 < length w
-  room_at = omega (arith, o.inside, o.fine.within)
-
   pub is_leaf : first w k.at ≡ 0 → {d : Digit} → d ≡ leaf_digit s k.held → DigitSays w u s s x xs (Ok d)
   unfolding DigitSays StandsAt HoldsTrees texts text
   is_leaf e {d} q = rw (q, sym o.tree ∙ tree_leaf w u k.at o.fine.unbroken o.inside e, o.held_is) (go xs o.holds o.held_is)
@@ -114,9 +111,6 @@ module _ {w : List ℕ} {u : ℕ} {s : List ℕ} {k : Walk} {x : Tree} {xs : Lis
         )
 
     module _ (m : second w k.at ≡ 0 → ⊥) where
-      pub second_small : second w k.at - 1 < 4294967296
-      second_small = omega (arith, (sound_node w u k.at o.inside o.fine.unbroken).second_in, o.inside, o.fine.within, o.fine.short)
-
       is_tree : x ≡ fork (tree_at w (first w k.at - 1)) (tree_at w (second w k.at - 1))
       is_tree =
           sym o.tree

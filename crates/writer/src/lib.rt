@@ -34,14 +34,14 @@ fn leaf_digit(stack: &[u32], held: usize) -> Digit
 {
     if held == 0 {
         return Digit {
-            value: 48,
+            value: b'0',
             next: None,
         };
     }
     let held = held - 1;
     let at = nodes::word(stack, held * 3);
     Digit {
-        value: 48,
+        value: b'0',
         next: Some(Walk { at, held }),
     }
 }
@@ -56,7 +56,7 @@ fn fork_digit(stack: &mut [u32], held: usize, p: usize, q: usize) -> Result<Digi
     }
     stack[held * 3] = q as u32;
     Ok(Digit {
-        value: 50,
+        value: b'2',
         next: Some(Walk {
             at: p,
             held: held + 1,
@@ -77,7 +77,7 @@ fn next_digit(table: &[u32], used: usize, stack: &mut [u32], walk: Walk) -> Resu
     let b = nodes::word(table, at * 2 + 1);
     if b == 0 {
         let next = Some(Walk { at: a - 1, held });
-        return Ok(Digit { value: 49, next });
+        return Ok(Digit { value: b'1', next });
     }
     fork_digit(stack, held, a - 1, b - 1)
 }
