@@ -1,79 +1,56 @@
 // The stages of Run on a packet that passed the checks: Translate, Read of each argument, Apply in order, Write. Each stage is a function that ends
-// in the next one, as in the definition (the crate `running`), and takes its inner answer apart: a refusal clears what was made since Run's entry
+// in the next one, as in the definition (the crate `running`); where its inner operation refuses, what was made since Run's entry is cleared
 // (the crate `endings`). What is answered tells also where applying stopped.
 // The table is sound throughout and keeps its index, so each stage is the inner operation, and no node is checked again. specs/ and the crates
 // `endings` and `index` say what the stages ask.
 #![tactic(auto)]
 
-ghost use Rattle.std.specs.Prelude.{◌≡◌, List, ℕ, ◌+◌, ◌*◌, ◌≤◌, ◌<◌, length, take};
+ghost use Rattle.std.specs.Prelude.{◌≡◌, List, ℕ, ◌+◌, ◌*◌, ◌≤◌, ◌<◌, length, None};
 ghost use Rattle.calculus.specs.Uses.{no_uses};
 ghost use Rattle.table.specs.Outcome.{whole_out};
 ghost use Rattle.packet.specs.Code.{Stand, values_at, packet_at};
 ghost use Rattle.running.specs.Run.{stopped, reads_by};
-ghost use Rattle.running.specs.Tell.{tell_at, told, tell_applies, tell_stages};
+ghost use Rattle.running.specs.Tell.{at_place, tell_at, told, tell_applies, tell_stages};
 ghost use Rattle.endings.specs.Ready.{Ready};
 ghost use Rattle.index.specs.Index as indexing;
 ghost use Rattle.stages.specs.Asked.{NodesIn, Passed};
 
-use applying::{Ended, Rule};
+use applying::Stopped;
 use calculus::Uses;
+use packet::{Form, Part};
 use running::{Ran, Stop, Told};
-use table::{Made, Refusal};
-
-// What is to be applied once the rule is translated: its node, to so many arguments, under this step limit.
-#[derive(Clone, Copy)]
-struct Applications {
-    rule: usize,
-    count: usize,
-    limit: usize,
-}
+use table::Refusal;
 
 // Run's answer where it did not stop while applying.
-fn tell(ran: Ran) -> Told
-    ensures { result ≡ record { ran = ran; stop = Stop.Nowhere } }
+fn tell(ran: Result<Ran, Refusal>) -> Told
+    ensures { result ≡ record { ran = ran; stop = None } }
 {
     Told {
         ran: ran,
-        stop: Stop::Nowhere,
+        stop: None,
     }
 }
 
-// The application to the argument at a place stopped, after so many steps for the arguments before: what was made since Run's entry is cleared. An
-// application that gave a node did not stop, and is not brought here.
+// The application to the argument at a place stopped, after so many steps for the arguments before: what was made since Run's entry is cleared.
 fn stop_applying(
     table: &mut [u32],
     used: usize,
     stack: &mut [u32],
-    ended: Ended,
+    end: Stopped,
     place: usize,
     before: usize,
 ) -> Told
-    requires { (used * 2 ≤ length table.old) × (before ≤ 1000000) × ((e : Refusal) (j : ℕ) (d : Rule) → ended ≡ Ended.Stopped e j d → j ≤ 1000000) }
-    ensures { (e : Refusal) (j : ℕ) (d : Rule) (o : List ℕ) → ended ≡ Ended.Stopped e j d
-        → whole_out result table.new stack.new o ≡ tell_at (Stop.At place (before + j) d) (stopped e table.old used stack.old o) }
+    requires { (used * 2 ≤ length table.old) × (before ≤ 1000000) × (end.steps ≤ 1000000) }
+    ensures { (o : List ℕ) → whole_out result table.new stack.new o
+        ≡ tell_at (at_place place (before + end.steps) end.rule) (stopped end.refusal table.old used stack.old o) }
 {
-    match ended {
-        Ended::Stopped {
-            refusal,
-            steps,
-            rule,
-        } => {
-            let ran = endings::stop(table, used, stack, refusal);
-            Told {
-                ran: ran,
-                stop: Stop::At {
-                    place: place,
-                    steps: before + steps,
-                    rule: rule,
-                },
-            }
-        }
-        Ended::Node {
-            node: _,
-            used: _,
-            steps: _,
-            uses: _,
-        } => tell(Ran::Refused(Refusal::Limits)),
+    Told {
+        ran: endings::stop(table, used, stack, end.refusal),
+        stop: Some(Stop {
+            place: place,
+            steps: before + end.steps,
+            rule: end.rule,
+        }),
     }
 }
 
@@ -83,19 +60,18 @@ fn apply_all(
     used: usize,
     stack: &mut [u32],
     out: &mut [u8],
-    nodes: [usize; 8],
-    work: Applications,
+    rule: usize,
+    nodes: &[usize],
+    limit: usize,
     index: &mut [u16],
     slots: usize,
 ) -> Told
-    requires { Ready table.old used stack.old out.old × (work.rule < used) × (work.limit ≤ 1000000) × (work.count ≤ 8) × NodesIn used nodes work.count
+    requires { Ready table.old used stack.old out.old × (rule < used) × (limit ≤ 1000000) × NodesIn used nodes.now (length nodes.now)
         × indexing.Ready table.old used slots index.old }
     ensures { whole_out result table.new stack.new out.new
-        ≡ tell_applies 1 (take work.count nodes) work.limit table.old used stack.old out.old work.rule no_uses }
+        ≡ tell_applies 1 nodes.now limit table.old used stack.old out.old rule no_uses }
 {
-    let count = work.count;
-    let limit = work.limit;
-    let mut node = work.rule;
+    let mut node = rule;
     let mut in_use = used;
     let mut uses = Uses {
         leaf: 0,
@@ -104,25 +80,18 @@ fn apply_all(
         spread: 0,
         triage: 0,
     };
-    let mut done = 0;
-    while done < count {
-        let argument = nodes[done];
+    for (done, &argument) in nodes.iter().enumerate() {
         let before = counts::sum(uses);
         let left = limit - before;
-        let answer = machine::apply_nodes(table, in_use, stack, node, argument, left, index, slots);
-        let Ended::Node {
-            node: given,
-            used: used_then,
-            steps: _,
-            uses: taken,
-        } = answer
-        else {
-            return stop_applying(table, in_use, stack, answer, done + 1, before);
+        let applied = match machine::apply_nodes(
+            table, in_use, stack, node, argument, left, index, slots,
+        ) {
+            Ok(applied) => applied,
+            Err(end) => return stop_applying(table, in_use, stack, end, done + 1, before),
         };
-        node = given;
-        in_use = used_then;
-        uses = counts::plus(uses, taken);
-        done += 1;
+        node = applied.node;
+        in_use = applied.used;
+        uses = counts::plus(uses, applied.uses);
     }
     tell(endings::write_outcome(table, in_use, stack, out, node, uses))
 }
@@ -135,68 +104,71 @@ fn read_all(
     out: &mut [u8],
     packet: &[u8],
     from: usize,
-    work: Applications,
+    form: Form,
+    rule: usize,
     index: &mut [u16],
     slots: usize,
 ) -> Told
-    requires { Ready table.old used stack.old out.old × (work.rule < used) × (work.limit ≤ 1000000) × (work.count ≤ 8) × Stand packet.now from work.count
+    requires { Ready table.old used stack.old out.old × (rule < used) × (form.limit ≤ 1000000) × (form.arguments ≤ 8) × Stand packet.now from form.arguments
         × indexing.Ready table.old used slots index.old }
     ensures { whole_out result table.new stack.new out.new
-        ≡ reads_by told (values_at packet.now from work.count) table.old used stack.old out.old
-        (λ ns w u s. tell_applies 1 ns work.limit w u s out.old work.rule no_uses) }
+        ≡ reads_by told (values_at packet.now from form.arguments) table.old used stack.old out.old
+        (λ ns w u s. tell_applies 1 ns form.limit w u s out.old rule no_uses) }
 {
-    let count = work.count;
+    let count = form.arguments;
     let mut nodes = [0usize; 8];
     let mut at = from;
     let mut in_use = used;
-    let mut kept = 0;
-    while kept < count {
-        let part = packet::part_at(packet, at);
-        let start = part.start;
-        let end = part.end;
-        let made = reader::read_text(table, in_use, stack, &packet[start..end], index, slots);
-        let Made::Node {
-            node,
-            used: used_then,
-        } = made
-        else {
-            return tell(endings::stop(table, in_use, stack, endings::made_refusal(made)));
+    for kept in 0..count {
+        let Part { start, end } = packet::part_at(packet, at);
+        let made = match reader::read_text(
+            table,
+            in_use,
+            stack,
+            &packet[start..end],
+            index,
+            slots,
+        ) {
+            Ok(made) => made,
+            Err(e) => return tell(endings::stop(table, in_use, stack, e)),
         };
-        nodes[kept] = node;
+        nodes[kept] = made.node;
         at = end;
-        in_use = used_then;
-        kept += 1;
+        in_use = made.used;
     }
-    apply_all(table, in_use, stack, out, nodes, work, index, slots)
+    apply_all(
+        table,
+        in_use,
+        stack,
+        out,
+        rule,
+        &nodes[..count],
+        form.limit,
+        index,
+        slots,
+    )
 }
 
-// The stages of Run on a packet that passed the checks. A label is passed over: they are those of the packet without it.
+// The stages of Run on a packet of this form that passed the checks. A label is passed over: they are those of the packet without it.
 pub fn run_stages(
     table: &mut [u32],
     stack: &mut [u32],
     out: &mut [u8],
     packet: &[u8],
-    count: usize,
-    limit: usize,
+    form: Form,
     index: &mut [u16],
     slots: usize,
 ) -> Told
-    requires { Passed table.old stack.old out.old packet.now count limit × indexing.Ready table.old 0 slots index.old }
+    requires { Passed table.old stack.old out.old packet.now form.arguments form.limit × indexing.Ready table.old 0 slots index.old }
     ensures { whole_out result table.new stack.new out.new
         ≡ tell_stages table.old stack.old out.old
-        (packet_at packet.now count limit 0) }
+        (packet_at packet.now form.arguments form.limit None) }
 {
-    let part = packet::part_at(packet, 0);
-    let start = part.start;
-    let end = part.end;
-    let made = term::translate_rule(table, 0, stack, &packet[start..end], index, slots);
-    let Made::Node { node, used } = made else {
-        return tell(endings::stop(table, 0, stack, endings::made_refusal(made)));
-    };
-    let work = Applications {
-        rule: node,
-        count: count,
-        limit: limit,
-    };
-    read_all(table, used, stack, out, packet, end, work, index, slots)
+    let Part { start, end } = packet::part_at(packet, 0);
+    match term::translate_rule(table, 0, stack, &packet[start..end], index, slots) {
+        Ok(made) => read_all(
+            table, made.used, stack, out, packet, end, form, made.node, index, slots,
+        ),
+        Err(e) => tell(endings::stop(table, 0, stack, e)),
+    }
 }
