@@ -8,7 +8,7 @@ ghost use Rattle.std.specs.Prelude.{◌≡◌, ◌+◌, ◌*◌, ◌/◌, ◌≤
 ghost use Rattle.std.proofs.Math.Option.{none};
 ghost use Rattle.table.specs.Nodes.{capacity};
 ghost use Rattle.table.specs.Outcome.{whole, at_entry};
-ghost use Rattle.index.specs.Index.{Ready};
+ghost use Rattle.index.specs.Index.{Serves, Ready};
 ghost use Rattle.applying.specs.Apply.{apply};
 
 use applying::Applied;
@@ -48,7 +48,7 @@ fn apply_in<const N: usize>(
     argument: usize,
     limit: usize,
 ) -> Result<Applied, Refusal>
-    requires { (2 ≤ N / 3) × (N ≤ 196608) × (N / 3 * 2 + capacity table.old ≤ N) }
+    requires { Serves N table.old }
     ensures { whole result table.new stack.new ≡ apply table.old used stack.old function argument limit }
 {
     let mut index = [0u16; N];

@@ -9,6 +9,7 @@ ghost use Rattle.std.specs.Prelude.{◌≡◌, ◌+◌, ◌*◌, ◌/◌, ◌≤
 ghost use Rattle.table.specs.Nodes.{capacity};
 ghost use Rattle.table.specs.Outcome.{at_entry};
 ghost use Rattle.checks.specs.Code.{refusal_of};
+ghost use Rattle.index.specs.Index.{Serves};
 
 use table::Refusal;
 
@@ -19,7 +20,7 @@ fn check_in<const N: usize>(
     used: usize,
     stack: &[u32],
 ) -> Result<(), Refusal>
-    requires { (2 ≤ N / 3) × (N ≤ 196608) × (N / 3 * 2 + capacity table.now ≤ N) }
+    requires { Serves N table.now }
     ensures { refusal_of result ≡ at_entry within table.now used stack.now }
 {
     let mut index = [0u16; N];

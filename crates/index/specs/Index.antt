@@ -1,5 +1,5 @@
 -- The index of a table's used nodes: a node stands at its home or after it, behind entries that are not empty. Assumes nothing: these are definitions.
-use Rattle.std.specs.Prelude.{ℕ, ◌+◌, ◌-◌, ◌*◌, ◌≤◌, ◌<◌, ◌≡◌, List, length, get_or}
+use Rattle.std.specs.Prelude.{ℕ, ◌+◌, ◌-◌, ◌*◌, ◌/◌, ◌≤◌, ◌<◌, ◌≡◌, List, length, get_or}
 use Rattle.std.specs.Int.Bits.{bit_and}
 use Rattle.table.specs.Nodes.{capacity, first, second, Sound}
 
@@ -34,6 +34,10 @@ pub record Empty (w : List ℕ) (s : ℕ) (ix : List ℕ) : Type 0 where
   pub none_yet : (p : ℕ) → get_or ix p 0 ≡ 0
   pub room : s + capacity w ≤ length ix
   pub some_slots : 0 < s
+
+-- An index of n entries, of which two thirds are slots, has room for each node of a table of these words.
+abbrev pub Serves : ℕ → List ℕ → Type 0
+Serves n w = (3 ≤ n) × (n ≤ 196608) × (length w ≤ n / 3 * 2)
 
 -- p is the first empty entry from the home of a and b on
 pub record Vacant (u s : ℕ) (ix : List ℕ) (a b p : ℕ) : Type 0 where

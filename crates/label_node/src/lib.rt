@@ -6,7 +6,7 @@ ghost use Rattle.std.specs.Prelude.{◌≡◌, true, [], ◌+◌, ◌*◌, ◌/�
 ghost use Rattle.std.proofs.Math.Option.{none};
 ghost use Rattle.table.specs.Nodes.{capacity};
 ghost use Rattle.table.specs.Outcome.{whole, at_entry};
-ghost use Rattle.index.specs.Index.{Ready};
+ghost use Rattle.index.specs.Index.{Serves, Ready};
 ghost use Rattle.labelled.specs.Label as labelling;
 
 use table::{Made, Refusal};
@@ -36,7 +36,7 @@ fn label_in<const N: usize>(
     rule: usize,
     label: usize,
 ) -> Result<Made, Refusal>
-    requires { (2 ≤ N / 3) × (N ≤ 196608) × (N / 3 * 2 + capacity table.old ≤ N) }
+    requires { Serves N table.old }
     ensures { whole result table.new [] ≡ labelling.label table.old used rule label }
 {
     let mut index = [0u16; N];

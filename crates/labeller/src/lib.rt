@@ -11,6 +11,7 @@ ghost use Rattle.table.specs.Outcome.{whole_out};
 ghost use Rattle.packet.specs.Code.{value_at};
 ghost use Rattle.labelling.specs.LabelPacket.{labelling_stages, label_packet};
 ghost use Rattle.label_stages.specs.Asked.{Passed};
+ghost use Rattle.index.specs.Index.{Serves};
 
 use running::Ran;
 use table::Refusal;
@@ -24,7 +25,7 @@ fn label_in<const N: usize>(
     packet: &[u8],
     at: usize,
 ) -> Result<Ran, Refusal>
-    requires { (3 ≤ N) × (N ≤ 196608) × (length table.old ≤ N / 3 * 2) × Passed table.old stack.old out.old packet.now at }
+    requires { Serves N table.old × Passed table.old stack.old out.old packet.now at }
     ensures { whole_out result table.new stack.new out.new
         ≡ labelling_stages table.old stack.old out.old (value_at packet.now 0) (value_at packet.now at) }
 {

@@ -8,6 +8,7 @@
 ghost use Rattle.std.specs.Prelude.{◌≡◌, ◌*◌, ◌/◌, ◌≤◌, length};
 ghost use Rattle.table.specs.Outcome.{whole};
 ghost use Rattle.ternary.specs.Read.{read};
+ghost use Rattle.index.specs.Index.{Serves};
 
 use table::{Made, Refusal};
 
@@ -18,7 +19,7 @@ fn read_in<const N: usize>(
     stack: &mut [u32],
     text: &[u8],
 ) -> Result<Made, Refusal>
-    requires { (3 ≤ N) × (N ≤ 196608) × (length table.old ≤ N / 3 * 2) }
+    requires { Serves N table.old }
     ensures { whole result table.new stack.new ≡ read table.old used stack.old text.now }
 {
     let slots = N / 3 * 2;

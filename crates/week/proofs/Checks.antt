@@ -10,10 +10,10 @@ use lib.Dec.{leb}
 use borrow.Author.Tests.{leb-true, leb-false, le-leb}
 use Rattle.std.specs.Prelude.{Err}
 use Rattle.table.specs.declared.Refusal.TheVariants.{Week}
-use Rattle.table.specs.Refusal.{given_by}
+use Rattle.table.specs.Refusal.{Given, given_by}
 use Rattle.table.proofs.Words.{and_left, and_right, told_apart, zero_one}
 use Rattle.week.specs.declared.Window.{Window}
-use Rattle.week.specs.Weeks.{Given, is_week, passes, checked}
+use Rattle.week.specs.Weeks.{is_week, passes, checked}
 use Rattle.week.specs.Claims.{ValidInput, BrokenInput, the_week, the_day, the_minute, Answers, passed, refused}
 use Rattle.week.proofs.Days.{week_exactly}
 

@@ -12,10 +12,10 @@ use lib.ListN.{get_or, replicate}
 use borrow.Author.Tests.{ltb-true, leb-true, lt-ltb, le-leb}
 use Rattle.std.specs.Prelude.{Some, None, Ok, Err}
 use Rattle.table.specs.declared.Refusal.TheVariants.{Week}
-use Rattle.table.specs.Refusal.{given_by}
+use Rattle.table.specs.Refusal.{Given, given_by}
 use Rattle.table.proofs.Words.{and_left, and_right, told_apart, zero_one}
 use Rattle.week.specs.declared.Window.{Window}
-use Rattle.week.specs.Weeks.{Given, holds, packet_at, window_at}
+use Rattle.week.specs.Weeks.{holds, packet_at, window_at}
 use Rattle.week.specs.Claims.{IsWindow, unused, Ascend, no_more, one_more, IsDay, IsWeek, WindowOf, ValidInput, BrokenInput, Answers, passed, Holds, At, held, not_held}
 use Rattle.week.proofs.Days.{unused_no_window, day_of_lem, below_seven}
 use Rattle.week.proofs.Checks.{answers_exactly, refused_exactly, answered}

@@ -6,8 +6,8 @@ use lib.ListN.{length, get_or}
 use borrow.Author.Tests.{eq-eqb, ne_eqb}
 use Rattle.std.specs.Prelude.{Err}
 use Rattle.table.specs.declared.Refusal.TheVariants.{Week}
+use Rattle.table.specs.Refusal.{Given}
 use Rattle.week.specs.declared.Window.{Window}
-use Rattle.week.specs.Weeks.{Given}
 use Rattle.week.specs.Lent.{place_of, day_of, week_of, day_numbers, week_numbers, lent}
 
 -- the numbers below n, and a list by its places

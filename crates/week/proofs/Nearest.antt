@@ -11,10 +11,10 @@ use lib.Dec.{leb}
 use borrow.Author.Tests.{leb-true, leb-false, le-leb, lt-leb}
 use Rattle.std.specs.Prelude.{Some, None, Ok, Err}
 use Rattle.table.specs.declared.Refusal.TheVariants.{Week}
-use Rattle.table.specs.Refusal.{given_by}
+use Rattle.table.specs.Refusal.{Given, given_by}
 use Rattle.table.proofs.Words.{zero_one}
 use Rattle.week.specs.declared.Window.{Window}
-use Rattle.week.specs.Weeks.{Given, window_at, week_minute, until, week_begins, least, next_window}
+use Rattle.week.specs.Weeks.{window_at, week_minute, until, week_begins, least, next_window}
 use Rattle.week.specs.Claims.{IsWeek, WindowOf, ValidInput, BrokenInput, Answers, passed, Holds, held, Minutes, this_week, next_week, Next, begins, no_window}
 use Rattle.week.proofs.Days.{below_seven, first_below}
 use Rattle.week.proofs.Checks.{answers_exactly, refused_exactly, answered}

@@ -3,7 +3,8 @@ use Rattle.std.specs.Prelude.{ℕ, ◌+◌, ◌≤◌, ◌<◌, ◌≡◌, lengt
 use mathlib.Core.List.{List, [], ◌∷◌, ◌++◌, Memᴰ}
 use Rattle.table.specs.declared.Refusal.TheVariants.{Week}
 use Rattle.week.specs.declared.Window.{Window}
-use Rattle.week.specs.Weeks.{Given, week_minute}
+use Rattle.table.specs.Refusal.{Given}
+use Rattle.week.specs.Weeks.{week_minute}
 
 -- "a window being a first minute, an end minute and a packet number from 1 to 28. Minutes run from 0 to 1,440, the first below the end" ([6])
 pub record IsWindow (w : Window) : Type 0 where

@@ -1,8 +1,8 @@
 -- How a week is lent to the exported functions: 84 numbers, seven days of four places of first, end and packet. Assumes nothing: these are definitions.
 use Rattle.std.specs.Prelude.{ℕ, ◌+◌, cond, List, [], ◌∷◌, ◌++◌, eqb, length, get_or, Err}
 use Rattle.table.specs.declared.Refusal.TheVariants.{Week}
+use Rattle.table.specs.Refusal.{Given}
 use Rattle.week.specs.declared.Window.{Window}
-use Rattle.week.specs.Weeks.{Given}
 
 -- the place, and the day, whose numbers begin at k
 unfoldable pub place_of : List ℕ → ℕ → Window

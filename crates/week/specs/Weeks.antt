@@ -1,16 +1,10 @@
 -- A week of windows, the packet at a minute, and the minutes until the next window begins (document 02, [6]). A week is the list of its days, a day the list
 -- of its places. Assumes nothing: these are definitions.
-use Rattle.std.specs.Prelude.{ℕ, suc, ◌+◌, ◌-◌, ◌*◌, Bool, true, cond, ◌&&◌, List, [], ◌∷◌, ◌++◌, map, leb, ltb, eqb, length, get_or, Result, Err}
-use Rattle.std.specs.Prelude as code
+use Rattle.std.specs.Prelude.{ℕ, suc, ◌+◌, ◌-◌, ◌*◌, Bool, true, cond, ◌&&◌, List, [], ◌∷◌, ◌++◌, map, leb, ltb, eqb, length, get_or, Err}
 use Rattle.std.proofs.Math.Option.{Option, none, some}
-use Rattle.table.specs.declared.Refusal.{Refusal}
 use Rattle.table.specs.declared.Refusal.TheVariants.{Week}
-use Rattle.table.specs.Refusal.{given_by}
+use Rattle.table.specs.Refusal.{Given, given_by}
 use Rattle.week.specs.declared.Window.{Window}
-
--- an answer: a number, none, or a refusal
-abbrev pub Given : Type 0
-Given = Result (code.Option ℕ) Refusal
 
 -- "a window being a first minute, an end minute and a packet number from 1 to 28. Minutes run from 0 to 1,440, the first below the end" ([6])
 unfoldable pub is_window : Window → Bool

@@ -12,8 +12,8 @@ use Rattle.std.specs.Prelude.{Ok, Err}
 use Rattle.table.specs.declared.Refusal.{Refusal}
 use Rattle.table.specs.declared.Refusal.TheVariants.{Week}
 use Rattle.table.proofs.Words.{zero_one}
+use Rattle.table.specs.Refusal.{Given}
 use Rattle.week.specs.declared.Window.{Window}
-use Rattle.week.specs.Weeks.{Given}
 use Rattle.week.specs.Lent.{place_of, day_of, week_of, lent}
 use Rattle.week_numbers.specs.Code.{week_lent}
 use Rattle.std.specs.Fn.{Called}
