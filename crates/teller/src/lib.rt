@@ -6,146 +6,63 @@
 // which the shorter tables then do not touch.
 #![tactic(auto)]
 
-ghost use Rattle.std.specs.Prelude.{◌≡◌, true, ◌≤◌, length};
+ghost use Rattle.std.specs.Prelude.{◌≡◌, ◌≤◌, ◌*◌, ◌/◌, length, None, Err};
 ghost use Rattle.table.specs.Outcome.{whole_out};
-ghost use Rattle.fields.specs.Packet as reading;
-ghost use Rattle.packet.specs.Code.{form_of};
-ghost use Rattle.running.specs.Run.{lengths_fit};
-ghost use Rattle.running.specs.Tell.{tell};
+ghost use Rattle.packet.specs.Code.{packet_at};
+ghost use Rattle.running.specs.Tell.{tell_stages, tell};
+ghost use Rattle.stages.specs.Asked.{Passed};
 
-use checks::Checked;
 use packet::Form;
-use running::{Ran, Stop, Told};
+use running::Told;
 use table::Refusal;
 
-// A whole packet with a table of at most 64 nodes: 5 and 4, and then the stages.
-fn tell_64(
-    table: &mut [u32],
-    stack: &mut [u32],
-    out: &mut [u8],
-    packet: &[u8],
-    count: usize,
-    limit: usize,
-    size: usize,
-) -> Told
-    requires { (length table.old ≤ 128) × (lengths_fit table.old stack.old out.old ≡ true)
-        × (Form.Whole count limit size ≡ form_of (reading.packet packet.now)) }
-    ensures { whole_out result table.new stack.new out.new
-        ≡ tell table.old stack.old out.old packet.now }
+// The answer of a packet that a check refuses.
+fn refused(refusal: Refusal) -> Told
+    ensures { result ≡ record { ran = Err refusal; stop = None } }
 {
-    let checked = packet_checks::check_parts(packet, count, size);
-    if let Checked::Refused(refusal) = checked {
-        return Told {
-            ran: Ran::Refused(refusal),
-            stop: Stop::Nowhere,
-        };
+    Told {
+        ran: Err(refusal),
+        stop: None,
     }
-    let mut index = [0u16; 192];
-    stages::run_stages(table, stack, out, packet, count, limit, &mut index, 128)
 }
 
-// A whole packet with a table of at most 256 nodes: 5 and 4, and then the stages.
-fn tell_256(
+// The stages on a packet of this form that passed the checks, with an index of N places, two thirds of them slots, for a table of half as many nodes.
+fn tell_in<const N: usize>(
     table: &mut [u32],
     stack: &mut [u32],
     out: &mut [u8],
     packet: &[u8],
-    count: usize,
-    limit: usize,
-    size: usize,
+    form: Form,
 ) -> Told
-    requires { (length table.old ≤ 512) × (lengths_fit table.old stack.old out.old ≡ true)
-        × (Form.Whole count limit size ≡ form_of (reading.packet packet.now)) }
+    requires { (3 ≤ N) × (N ≤ 196608) × (length table.old ≤ N / 3 * 2) × Passed table.old stack.old out.old packet.now form.arguments form.limit }
     ensures { whole_out result table.new stack.new out.new
-        ≡ tell table.old stack.old out.old packet.now }
+        ≡ tell_stages table.old stack.old out.old
+        (packet_at packet.now form.arguments form.limit None) }
 {
-    let checked = packet_checks::check_parts(packet, count, size);
-    if let Checked::Refused(refusal) = checked {
-        return Told {
-            ran: Ran::Refused(refusal),
-            stop: Stop::Nowhere,
-        };
-    }
-    let mut index = [0u16; 768];
-    stages::run_stages(table, stack, out, packet, count, limit, &mut index, 512)
+    let mut index = [0u16; N];
+    stages::run_stages(table, stack, out, packet, form, &mut index, N / 3 * 2)
 }
 
-// A whole packet with a table of at most 1,024 nodes: 5 and 4, and then the stages.
-fn tell_1024(
+// The same, with an index for the table's length.
+fn tell_checked(
     table: &mut [u32],
     stack: &mut [u32],
     out: &mut [u8],
     packet: &[u8],
-    count: usize,
-    limit: usize,
-    size: usize,
+    form: Form,
 ) -> Told
-    requires { (length table.old ≤ 2048) × (lengths_fit table.old stack.old out.old ≡ true)
-        × (Form.Whole count limit size ≡ form_of (reading.packet packet.now)) }
+    requires { Passed table.old stack.old out.old packet.now form.arguments form.limit }
     ensures { whole_out result table.new stack.new out.new
-        ≡ tell table.old stack.old out.old packet.now }
+        ≡ tell_stages table.old stack.old out.old
+        (packet_at packet.now form.arguments form.limit None) }
 {
-    let checked = packet_checks::check_parts(packet, count, size);
-    if let Checked::Refused(refusal) = checked {
-        return Told {
-            ran: Ran::Refused(refusal),
-            stop: Stop::Nowhere,
-        };
+    match table.len() {
+        0..=128 => tell_in::<192>(table, stack, out, packet, form),
+        ..=512 => tell_in::<768>(table, stack, out, packet, form),
+        ..=2048 => tell_in::<3072>(table, stack, out, packet, form),
+        ..=16384 => tell_in::<24576>(table, stack, out, packet, form),
+        _ => tell_in::<196608>(table, stack, out, packet, form),
     }
-    let mut index = [0u16; 3072];
-    stages::run_stages(table, stack, out, packet, count, limit, &mut index, 2048)
-}
-
-// A whole packet with a table of at most 8,192 nodes: 5 and 4, and then the stages.
-fn tell_8192(
-    table: &mut [u32],
-    stack: &mut [u32],
-    out: &mut [u8],
-    packet: &[u8],
-    count: usize,
-    limit: usize,
-    size: usize,
-) -> Told
-    requires { (length table.old ≤ 16384) × (lengths_fit table.old stack.old out.old ≡ true)
-        × (Form.Whole count limit size ≡ form_of (reading.packet packet.now)) }
-    ensures { whole_out result table.new stack.new out.new
-        ≡ tell table.old stack.old out.old packet.now }
-{
-    let checked = packet_checks::check_parts(packet, count, size);
-    if let Checked::Refused(refusal) = checked {
-        return Told {
-            ran: Ran::Refused(refusal),
-            stop: Stop::Nowhere,
-        };
-    }
-    let mut index = [0u16; 24576];
-    stages::run_stages(table, stack, out, packet, count, limit, &mut index, 16384)
-}
-
-// A whole packet with a table of at most 65,536 nodes: 5 and 4, and then the stages.
-fn tell_65536(
-    table: &mut [u32],
-    stack: &mut [u32],
-    out: &mut [u8],
-    packet: &[u8],
-    count: usize,
-    limit: usize,
-    size: usize,
-) -> Told
-    requires { (length table.old ≤ 131072) × (lengths_fit table.old stack.old out.old ≡ true)
-        × (Form.Whole count limit size ≡ form_of (reading.packet packet.now)) }
-    ensures { whole_out result table.new stack.new out.new
-        ≡ tell table.old stack.old out.old packet.now }
-{
-    let checked = packet_checks::check_parts(packet, count, size);
-    if let Checked::Refused(refusal) = checked {
-        return Told {
-            ran: Ran::Refused(refusal),
-            stop: Stop::Nowhere,
-        };
-    }
-    let mut index = [0u16; 196608];
-    stages::run_stages(table, stack, out, packet, count, limit, &mut index, 131072)
 }
 
 // Runs a packet with the table taken as empty, and tells where applying stopped.
@@ -154,34 +71,13 @@ pub fn tell(table: &mut [u32], stack: &mut [u32], out: &mut [u8], packet: &[u8])
         ≡ tell table.old stack.old out.old packet.now }
 {
     if !packet_checks::lengths_fit(table, stack, out) {
-        return Told {
-            ran: Ran::Refused(Refusal::Limits),
-            stop: Stop::Nowhere,
-        };
+        return refused(Refusal::Limits);
     }
-    let Form::Whole {
-        arguments,
-        limit,
-        label_size,
-    } = packet::read_packet(packet)
-    else {
-        return Told {
-            ran: Ran::Refused(Refusal::Packet),
-            stop: Stop::Nowhere,
-        };
+    let Some(form) = packet::read_packet(packet) else {
+        return refused(Refusal::Packet);
     };
-    let n = table.len();
-    if n <= 128 {
-        return tell_64(table, stack, out, packet, arguments, limit, label_size);
+    if let Err(refusal) = packet_checks::check_parts(packet, form) {
+        return refused(refusal);
     }
-    if n <= 512 {
-        return tell_256(table, stack, out, packet, arguments, limit, label_size);
-    }
-    if n <= 2048 {
-        return tell_1024(table, stack, out, packet, arguments, limit, label_size);
-    }
-    if n <= 16384 {
-        return tell_8192(table, stack, out, packet, arguments, limit, label_size);
-    }
-    tell_65536(table, stack, out, packet, arguments, limit, label_size)
+    tell_checked(table, stack, out, packet, form)
 }
