@@ -6,4 +6,4 @@ use Rattle.running.proofs.Checks.{tell_runs}
 use Rattle.run.proofs.run.Goals as goal
 
 pub returns : goal.returns
-returns c = ap (answered (λ (a : Told). a.ran)) c.tell-told.ensures ∙ tell_runs _ _ _ _
+returns c = ap (answered (λ (a : Told). a.ran)) c.tell.ensures ∙ tell_runs _ _ _ _
