@@ -7,10 +7,12 @@ ghost use Rattle.table.specs.Outcome.{whole_out};
 ghost use Rattle.stopping.specs.Stopped as stopping;
 
 use applying::Rule;
-use running::{Ran, Stop, Told};
+use running::Told;
 use stopping::{Kind, Stopped};
 
 // Which of the five a rule is.
+// A function and no `From`: an impl stands with one of its types, and both are in crates of definitions.
+#[tactic(auto, unfolding(stopping::specs::Stopped::kind))]
 fn kind(rule: Rule) -> Kind
     ensures { result ≡ stopping.kind rule }
 {
@@ -24,21 +26,18 @@ fn kind(rule: Rule) -> Kind
 }
 
 // What is given of a run that was told: where applying stopped, or Run's number alone.
+#[tactic(auto, unfolding(stopping::specs::Stopped::stop_by))]
 fn stop(told: Told) -> Stopped
     ensures { result ≡ stopping.stop_by told.ran told.stop }
 {
-    let ran = told.ran;
-    let at = told.stop;
-    let Ran::Refused(refusal) = ran else {
-        return Stopped::Completed;
-    };
-    match at {
-        Stop::Nowhere => Stopped::Refused(refusal),
-        Stop::At { place, steps, rule } => Stopped::Applying {
+    match (told.ran, told.stop) {
+        (Ok(_), _) => Stopped::Completed,
+        (Err(refusal), None) => Stopped::Refused(refusal),
+        (Err(refusal), Some(at)) => Stopped::Applying {
             refusal: refusal,
-            place: place,
-            steps: steps,
-            rule: kind(rule),
+            place: at.place,
+            steps: at.steps,
+            rule: kind(at.rule),
         },
     }
 }
@@ -48,24 +47,19 @@ pub fn stopped(table: &mut [u32], stack: &mut [u32], out: &mut [u8], packet: &[u
     ensures { whole_out result table.new stack.new out.new
         ≡ stopping.stopped table.old stack.old out.old packet.now }
 {
-    let told = teller::tell(table, stack, out, packet);
-    stop(told)
+    stop(teller::tell(table, stack, out, packet))
 }
 
-// The number of a rule, in document 01's order.
+// The number of a rule, in document 01's order, from 1.
+#[tactic(auto, unfolding(stopping::specs::Stopped::kind_number))]
 fn kind_number(kind: Kind) -> usize
     ensures { result ≡ stopping.kind_number kind }
 {
-    match kind {
-        Kind::Leaf => 1,
-        Kind::Stem => 2,
-        Kind::Drop => 3,
-        Kind::Spread => 4,
-        Kind::Triage => 5,
-    }
+    kind as usize + 1
 }
 
 // The four numbers of the answer: Run's number, the place, the steps and the rule.
+#[tactic(auto, unfolding(stopping::specs::Stopped::stopped_numbers))]
 pub fn numbers(answer: Stopped) -> [usize; 4]
     ensures { result ≡ stopping.stopped_numbers answer }
 {

@@ -7,4 +7,4 @@ use Rattle.stops.proofs.stopped.Goals as goal
 
 pub returns : goal.returns
 unfolding stopped
-returns c = rw c.stop.ensures (ap (answered (λ (a : Told). stop_by a.ran a.stop)) c.tell-told.ensures)
+returns c = rw c.stop.ensures (ap (answered (λ (a : Told). stop_by a.ran a.stop)) c.tell.ensures)
