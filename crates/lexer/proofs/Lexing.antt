@@ -157,3 +157,6 @@ flushed_name l n (suc k) w e h = record { front = rw (add-one, take-suc-set l n 
 pub lexes_broken : (o : Option (List ℕ)) (n : ℕ) (ws : List ℕ) → o ≡ none → Lexes o n ws code.None
 unfolding Lexes
 lexes_broken o n ws e = e
+
+-- what the loop over a text cites
+pub ruleset steps = (lexing_long, lexing_broken, lexing_done, lexes_broken, top_small)

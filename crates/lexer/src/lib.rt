@@ -34,6 +34,7 @@ fn flush(words: &mut [u64], n: usize, k: usize, w: u64) -> usize
 }
 
 // The words of a text, where it spells tokens.
+#[tactic(auto, using(crate::proofs::Lexing::steps))]
 pub fn lex(text: &[u8], words: &mut [u64]) -> Option<usize>
     requires { length text.now ≤ length words.old }
     ensures { Lexes (lex 0 0 text.now) (length text.now) words.new result }

@@ -47,6 +47,9 @@ module _ (ws : List ℕ) (at : ℕ) where
       → (get_or ws at 0 ≡ 46 → ⊥) → (get_or ws at 0 ≡ 33 → ⊥) → JointAt ws at (code.Some joint.Operand)
   joint_operand h a b c d e f = (rw (tokens_at ws at h) (starts (get_or ws at 0) (tokens (drop (at + 1) ws)) a b c d e f), h)
 
+-- what stands after an application, where it is no operator
+pub ruleset joints = (joint_none, joint_closing, joint_broken, joint_operand)
+
 -- n times ! passed
 passed : (ws : List ℕ) (from n : ℕ) → from + n ≤ length ws → ((i : ℕ) → i < n → get_or ws (from + i) 0 ≡ 33)
     → (d : ℕ) (Γ : List ℕ) (p : Unclosed) → parse d Γ p (tokens (drop from ws)) ≡ parse d Γ (noted_by n p) (tokens (drop (from + n) ws))

@@ -52,7 +52,7 @@ pub fn put(post: &mut [u16], w: usize, count: usize, symbol: u16) -> usize
 // The symbols of the operators that are complete: so many not, and, or.
 fn close(post: &mut [u16], from: usize, nots: usize, ands: usize, ors: usize) -> usize
     requires { from + nots + ands + ors ≤ length post.old }
-    ensures { Wrote post.old from (replicate nots 5 ++ (replicate ands 1 ++ replicate ors 2)) result post.new }
+    ensures { Wrote post.old from (replicate nots NOT ++ (replicate ands AND ++ replicate ors OR)) result post.new }
 {
     let a = put(post, from, nots, NOT);
     let b = put(post, a, ands, AND);
@@ -60,6 +60,7 @@ fn close(post: &mut [u16], from: usize, nots: usize, ands: usize, ors: usize) ->
 }
 
 // What stands after an application, or none where no expression goes on with it.
+#[tactic(auto, using(crate::proofs::Joints::joints))]
 fn joint_at(words: &[u64], at: usize) -> Option<Joint>
     requires { at ≤ length words.now }
     ensures { JointAt words.now at result }

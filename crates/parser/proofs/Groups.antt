@@ -226,6 +226,8 @@ module _ (ws : List ℕ) (at : ℕ) (names : List ℕ) (k : ℕ) (q : RowAsks ws
       → Row ws at names k k ms × (k ≡ 0 → (d : ℕ) (Γ : List ℕ) → operand d Γ (tokens (drop at ws)) ≡ nothing)
   row_full n ms v e = (subst (λ (i : ℕ). Row ws at names k i ms) e v, λ z. absurd (omega (arith, q.before, q.scope)))
 
+pub ruleset rows = (row_none, row_end, row_full)
+
 -- an operand in parentheses
 module _ (ws : List ℕ) (at d : ℕ) (Γ : List ℕ) (w : ℕ) (post m : List ℕ) (h : at < length ws) (e : get_or ws at 0 ≡ 40) (n : d ≡ 0 → ⊥) where
   pub group_told : (next end : ℕ) → Phrased (parse (d - 1) Γ empty (tokens (drop (at + 1) ws))) ws w post m next end

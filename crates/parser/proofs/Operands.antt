@@ -1,11 +1,11 @@
 -- Laws of leaves and names as operands. Assumes nothing.
-use Prim.Native.Nat.{ℕ, suc, ◌+◌, ◌<◌}
-use mathlib.Core.Path.{◌≡◌, refl, ap, subst, ◌∙◌}
+use Prim.Native.Nat.{ℕ, suc, ◌+◌, ◌-◌, ◌<◌}
+use mathlib.Core.Path.{◌≡◌, refl, sym, ap, subst, ◌∙◌}
 use mathlib.Core.Bool.{Bool, true, false, cond, not}
 use mathlib.Core.List.{List, [], ◌∷◌}
 use mathlib.Core.Option.{Option, none, some}
 use native.Mathlib.Omega.{arith}
-use lib.ListN.{length, get_or, drop, set, length-drop}
+use lib.ListN.{length, get_or, take, drop, set, length-drop}
 use lib.Dec.{eqb}
 use borrow.Author.Tests.{not-true, not-false}
 use Rattle.grammar.specs.Expression.{leaf, var}
@@ -14,21 +14,32 @@ use Rattle.grammar.specs.Reader.{up, lookup, variable, operand_by, operand}
 use Rattle.grammar.specs.Words.{tokens}
 use Rattle.grammar.specs.Postfix.{postfix}
 use Rattle.grammar.proofs.Places.{tokens_at, sign_at}
+use Rattle.std.proofs.lemmas.Slice.{between_to_end}
 use Rattle.table.proofs.Words.{zero_one}
 use Rattle.table.proofs.Wrote.{wrote_one}
 use Rattle.parser.specs.Code.{place_of, IsName, Asks, Tells}
 use Rattle.std.specs.Prelude as code
 
--- where a name was found
-pub found_at : (o : Option ℕ) (r : code.Option ℕ) (i : ℕ) → r ≡ place_of o → r ≡ code.Some i → o ≡ some i
+found_some : (o : Option ℕ) (i : ℕ) → code.Some i ≡ place_of o → o ≡ some i
 unfolding place_of
-found_at none r i q e = zero_one (cc)
-found_at (some j) r i q e = cc
+found_some none i q = zero_one (cc)
+found_some (some j) i q = cc
 
-pub found_none : (o : Option ℕ) (r : code.Option ℕ) → r ≡ place_of o → r ≡ code.None → o ≡ none
+found_nothing : (o : Option ℕ) → code.None ≡ place_of o → o ≡ none
 unfolding place_of
-found_none none r q e = refl
-found_none (some j) r q e = zero_one (cc)
+found_nothing none q = refl
+found_nothing (some j) q = zero_one (cc)
+
+-- where a name was found among the names from the k-th on, as the code cuts them
+module _ (names : List ℕ) (k x : ℕ) {r : code.Option ℕ} (q : r ≡ place_of (lookup (take (length names - k) (drop k names)) x)) where
+  cut : r ≡ place_of (lookup (drop k names) x)
+  cut = q ∙ ap (λ (l : List ℕ). place_of (lookup l x)) (between_to_end names k (length names) (omega arith))
+
+  pub found_at : {i : ℕ} → r ≡ code.Some i → lookup (drop k names) x ≡ some i
+  found_at e = found_some _ _ (sym e ∙ cut)
+
+  pub found_none : r ≡ code.None → lookup (drop k names) x ≡ none
+  found_none e = found_nothing _ (sym e ∙ cut)
 
 abbrev Below : ℕ → Option ℕ → Type 0
 Below n none = Unit {0}

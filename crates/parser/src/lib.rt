@@ -1,7 +1,8 @@
 // Words to postfix symbols: the expression parser and the operand parser, which call each other. The grammar and its reader are in the crate
 // `grammar`; specs/ says what the functions ask and give in its terms. Assumes nothing.
 //
-// The names around a place are `names[k..]`, nearest first: the array is filled from its end.
+// The names around a place are `names[k..]`, nearest first: the array is filled from its end. Words, names and symbols stand in lent arrays: no heap is
+// used.
 #![tactic(auto)]
 
 ghost use Rattle.std.specs.Prelude.{◌≡◌, List, ℕ, ◌≤◌, ◌<◌, length, get_or, drop};
@@ -22,12 +23,11 @@ pub struct Phrase {
     pub end: usize,
 }
 
-// Looks for a name among those around, the nearest of which is at `from`: how many abstractions lie between the name and its own.
-fn find(names: &[u64], from: usize, x: u64) -> Option<usize>
-    requires { from ≤ length names.now }
-    ensures { result ≡ place_of (lookup (drop from names.now) x) }
+// Looks for a name among those around, nearest first: how many abstractions lie between the name and its own.
+fn find(names: &[u64], x: u64) -> Option<usize>
+    ensures { result ≡ place_of (lookup names.now x) }
 {
-    names[from..].iter().position(|&y| x == y)
+    names.iter().position(|&y| x == y)
 }
 
 // Whether a word is a name.
@@ -49,7 +49,7 @@ fn atom(
     post: &mut [u16],
     w: usize,
 ) -> Option<Phrase>
-    requires { Asks words.now at names.now k post.old w × (at < length words.now) × (get_or words.now at 0 ≡ 40 → ⊥) × (get_or words.now at 0 ≡ 92 → ⊥) }
+    requires { Asks words.now at names.now k post.old w × (at < length words.now) × (get_or words.now at 0 ≡ OPENING → ⊥) × (get_or words.now at 0 ≡ BACKSLASH → ⊥) }
     ensures { (d : ℕ) → Tells (operand d (drop k names.now) (tokens (drop at words.now))) words.now w post.old post.new result }
 {
     let t = words[at];
@@ -64,7 +64,7 @@ fn atom(
     if !is_name(t) {
         return None;
     }
-    let i = find(names, k, t)?;
+    let i = find(&names[k..], t)?;
     post[w] = i as u16 + VARIABLE;
     Some(phrase)
 }
@@ -81,6 +81,7 @@ fn is_binder(words: &[u64], at: usize) -> bool
 }
 
 // How many abstractions a row of them opens from the backslash at `at` on: a count, 0 where the backslash opens none. Their names go before those around.
+#[tactic(auto, using(crate::proofs::Groups::rows))]
 fn open_abstractions(words: &[u64], at: usize, names: &mut [u64], k: usize) -> usize
     requires { RowAsks words.now at names.old k }
     ensures { Row words.now at names.old k result names.new

@@ -19,7 +19,7 @@ fn digit(n: u8) -> u8
     b'a' - 10 + n
 }
 
-// Spells bytes in hexadecimal; how many digits they have.
+// Spells bytes in hexadecimal, as `digits` of specs/Line.antt has it; how many digits they have. The line is an array: no heap is used.
 fn spell(bytes: &[u8], line: &mut [u8]) -> usize
     requires { (length bytes.now ≤ 4096) × (2 * length bytes.now ≤ length line.old) }
     ensures { (result ≡ 2 * length bytes.now) × (line.new ≡ digits bytes.now ++ drop result line.old) }

@@ -2,20 +2,11 @@
 use native.Mathlib.Omega.{arith}
 use mathlib.Core.Path.{◌∙◌, ap, sym}
 use mathlib.Core.Bool.{not}
-use Rattle.lexer.proofs.Lexing.{lexing_start, lexing_long, lexing_letter, lexing_space, lexing_broken, lexing_sign, lexing_done, lexes_broken, top_small}
+use Rattle.lexer.proofs.Lexing.{lexing_start, lexing_letter, lexing_space, lexing_sign}
 use Rattle.lexer.proofs.lex.Goals as goal
 
 pub loop-b-init : goal.loop-b-init
 loop-b-init c = lexing_start _ _
-
-pub returns-then-k-eq-MOST_LETTERS : goal.returns-then-k-eq-MOST_LETTERS
-returns-then-k-eq-MOST_LETTERS c = lexes_broken _ _ _ (lexing_long _ _ _ _ _ _ _ c.loop-b.invariant c.loop-b-test.true (sym c.if-is_ascii_lowercase.true ∙ c.is_ascii_lowercase.ensures.value) c.if-k-eq-MOST_LETTERS.true)
-
-pub overflow_mul-w : goal.overflow_mul-w
-overflow_mul-w c = omega (arith, top_small c.loop-b.k (omega (arith, c.loop-b.invariant.letters, c.if-k-eq-MOST_LETTERS.false)), c.loop-b.invariant.below)
-
-pub overflow_add-w : goal.overflow_add-w
-overflow_add-w c = omega (arith, top_small c.loop-b.k (omega (arith, c.loop-b.invariant.letters, c.if-k-eq-MOST_LETTERS.false)), c.loop-b.invariant.below, c.type_inv.text c.loop-b.b-index)
 
 pub loop-b-preserved-then-is_ascii_lowercase : goal.loop-b-preserved-then-is_ascii_lowercase
 loop-b-preserved-then-is_ascii_lowercase c = rw c.from.ensures (lexing_letter _ _ _ _ _ _ _ c.loop-b.invariant c.loop-b-test.true (sym c.if-is_ascii_lowercase.true ∙ c.is_ascii_lowercase.ensures.value) c.if-k-eq-MOST_LETTERS.false (omega (arith, c.type_inv.text c.loop-b.b-index)))
@@ -23,11 +14,5 @@ loop-b-preserved-then-is_ascii_lowercase c = rw c.from.ensures (lexing_letter _ 
 pub loop-b-preserved-then-b-eq32 : goal.loop-b-preserved-then-b-eq32
 loop-b-preserved-then-b-eq32 c = lexing_space _ _ _ _ _ _ _ c.loop-b.invariant c.loop-b-test.true (sym c.if-is_ascii_lowercase.false ∙ c.is_ascii_lowercase.ensures.value) _ _ c.flush-n.auto.words c.flush-n.ensures c.if-b-eq32.true
 
-pub returns-then-not-is_sign : goal.returns-then-not-is_sign
-returns-then-not-is_sign c = lexes_broken _ _ _ (lexing_broken _ _ _ _ _ _ _ c.loop-b.invariant c.loop-b-test.true (sym c.if-is_ascii_lowercase.false ∙ c.is_ascii_lowercase.ensures.value) _ _ c.flush-n.auto.words c.flush-n.ensures c.if-b-eq32.false c.is_sign.result c.is_sign.ensures (ap not c.if-not-is_sign.true))
-
 pub loop-b-preserved : goal.loop-b-preserved
 loop-b-preserved c = rw c.from-in-loop-b.ensures (lexing_sign _ _ _ _ _ _ _ c.loop-b.invariant c.loop-b-test.true (sym c.if-is_ascii_lowercase.false ∙ c.is_ascii_lowercase.ensures.value) _ _ c.flush-n.auto.words c.flush-n.ensures c.if-b-eq32.false c.is_sign.result c.is_sign.ensures (ap not c.if-not-is_sign.false) (omega (arith, c.flush-n.ensures.most, c.loop-b.invariant.few, c.loop-b.invariant.same, c.flush-n.auto.words)))
-
-pub returns : goal.returns
-returns c = lexing_done _ _ _ _ _ _ _ c.loop-b.invariant c.loop-b-test.false _ _ c.flush.auto.words c.flush.ensures

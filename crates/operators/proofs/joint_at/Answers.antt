@@ -1,15 +1,7 @@
 -- `operators::joint_at` meets its contract: each token. Assumes nothing.
-use Rattle.std.proofs.Common.{rules}
 use Rattle.grammar.specs.Tokens.{is_ampersand, is_bar, is_arrow}
 use Rattle.grammar.proofs.Places.{sign_at}
-use Rattle.operators.proofs.Joints.{joint_none, joint_closing, joint_broken, joint_operand}
 use Rattle.operators.proofs.joint_at.Goals as goal
-
-pub returns-then-words-at : goal.returns-then-words-at
-returns-then-words-at c = joint_none _ _ c.if-words-at.true
-
-pub returns-in-41 : goal.returns-in-41
-returns-in-41 c = joint_closing _ _ c.if-words-at.false c.in-41.is
 
 pub returns-in-38 : goal.returns-in-38
 returns-in-38 c = (sign_at is_ampersand _ _ c.if-words-at.false c.in-38.is, c.if-words-at.false)
@@ -19,9 +11,3 @@ returns-in-124 c = (sign_at is_bar _ _ c.if-words-at.false c.in-124.is, c.if-wor
 
 pub returns-in-62 : goal.returns-in-62
 returns-in-62 c = (sign_at is_arrow _ _ c.if-words-at.false c.in-62.is, c.if-words-at.false)
-
-pub returns-in-46 : goal.returns-in-46
-returns-in-46 c = joint_broken _ _ c.if-words-at.false c.in-46.is
-
-pub returns-in_default : goal.returns-in_default
-returns-in_default c = search (rules, joint_operand)
