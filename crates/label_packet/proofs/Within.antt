@@ -4,18 +4,19 @@ use mathlib.Core.Path.{◌≡◌, sym, ap, ◌∙◌}
 use mathlib.Core.List.{List}
 use native.Mathlib.Omega.{arith}
 use lib.ListN.{length, drop, length-append}
-use Rattle.calculus.specs.declared.Uses.{Uses}
+use Rattle.std.specs.Prelude.{Result, Ok, Err, IfOk}
 use Rattle.calculus.specs.Abstraction.{rule_tree}
 use Rattle.ternary.specs.Text.{text}
 use Rattle.table.specs.Outcome.{Outcome, whole_out}
+use Rattle.table.specs.declared.Refusal.{Refusal}
 use Rattle.labelled.specs.Label.{labelled}
 use Rattle.running.specs.declared.Ran.{Ran}
-use Rattle.running.specs.declared.Ran.TheVariants.{Text}
 use Rattle.labelling.specs.LabelPacket.{label_packet}
 use Rattle.labelling.proofs.Writes.{label_writes}
 
-pub text_within : (w s o l : List ℕ) {a : Ran} {z y x : List ℕ} {j u n : ℕ} {k : Uses} → whole_out a z y x ≡ label_packet w s o l → a ≡ Text j u n k → n ≤ length x
-text_within w s o l {a} {z} {y} {x} {j} {u} {n} {k} e q =
-    let r = label_writes w s o l j u n k (ap (λ (v : Outcome Ran). v.answer) (sym e) ∙ q) in
-    let f = ap length (ap (λ (v : Outcome Ran). v.out) e ∙ r.out_is) in
-    omega (arith, r.digits_are, length-append (text (labelled (rule_tree r.term) r.label)) (drop n o))
+pub text_within : (w s o l : List ℕ) (a : Result Ran Refusal) {z y x : List ℕ} → whole_out a z y x ≡ label_packet w s o l → IfOk a (λ m. m.digits ≤ length x)
+text_within w s o l (Err d) e = tt
+text_within w s o l (Ok m) {z} {y} {x} e =
+    let r = label_writes w s o l m.steps m.used m.digits m.uses (ap (λ (v : Outcome (Result Ran Refusal)). v.answer) (sym e)) in
+    let f = ap length (ap (λ (v : Outcome (Result Ran Refusal)). v.out) e ∙ r.out_is) in
+    omega (arith, r.digits_are, length-append (text (labelled (rule_tree r.term) r.label)) (drop m.digits o))
