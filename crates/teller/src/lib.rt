@@ -6,8 +6,9 @@
 // which the shorter tables then do not touch.
 #![tactic(auto)]
 
-ghost use Rattle.std.specs.Prelude.{◌≡◌, ◌≤◌, ◌*◌, ◌/◌, length, None, Err};
+ghost use Rattle.std.specs.Prelude.{◌≡◌, None, Err};
 ghost use Rattle.table.specs.Outcome.{whole_out};
+ghost use Rattle.index.specs.Index.{Serves};
 ghost use Rattle.packet.specs.Code.{packet_at};
 ghost use Rattle.running.specs.Tell.{tell_stages, tell};
 ghost use Rattle.stages.specs.Asked.{Passed};
@@ -26,7 +27,7 @@ fn refused(refusal: Refusal) -> Told
     }
 }
 
-// The stages on a packet of this form that passed the checks, with an index of N places, two thirds of them slots, for a table of half as many nodes.
+// The stages on a packet of this form that passed the checks, with an index of N entries that serves the table.
 fn tell_in<const N: usize>(
     table: &mut [u32],
     stack: &mut [u32],
@@ -34,7 +35,7 @@ fn tell_in<const N: usize>(
     packet: &[u8],
     form: Form,
 ) -> Told
-    requires { (3 ≤ N) × (N ≤ 196608) × (length table.old ≤ N / 3 * 2) × Passed table.old stack.old out.old packet.now form.arguments form.limit }
+    requires { Serves N table.old × Passed table.old stack.old out.old packet.now form.arguments form.limit }
     ensures { whole_out result table.new stack.new out.new
         ≡ tell_stages table.old stack.old out.old
         (packet_at packet.now form.arguments form.limit None) }
