@@ -6,7 +6,7 @@
 // which the shorter tables then do not touch.
 #![tactic(auto)]
 
-ghost use Rattle.std.specs.Prelude.{◌≡◌, ◌≤◌, ◌*◌, ◌/◌, length};
+ghost use Rattle.std.specs.Prelude.{◌≡◌};
 ghost use Rattle.table.specs.Outcome.{whole_out};
 ghost use Rattle.packet.specs.Code.{value_at};
 ghost use Rattle.labelling.specs.LabelPacket.{labelling_stages, label_packet};
