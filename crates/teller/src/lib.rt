@@ -11,7 +11,6 @@ ghost use Rattle.table.specs.Outcome.{whole_out};
 ghost use Rattle.index.specs.Index.{Serves};
 ghost use Rattle.packet.specs.Code.{packet_at};
 ghost use Rattle.running.specs.Tell.{tell_stages, tell};
-ghost use Rattle.index.specs.Index.{Serves};
 ghost use Rattle.stages.specs.Asked.{Passed};
 
 use packet::Form;
