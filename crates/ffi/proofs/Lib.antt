@@ -1,2 +1,2 @@
--- The law that the proofs of the exported functions cite.
+-- What an exported function leaves is its operation's outcome, with the answer as numbers; the check finds it by itself at each of them.
 mod Numbered

@@ -1,8 +1,0 @@
--- `ffi::lazvorn_add_weights` meets its contract: the operation's outcome, with its answer as numbers. Assumes nothing.
-use Rattle.table.specs.Refusal.{made_numbers}
-use Rattle.ffi.proofs.Numbered.{is_numbered}
-use Rattle.ffi.proofs.lazvorn_add_weights.Goals as goal
-
-pub returns : goal.returns
-returns c =
-    is_numbered (made_numbers c.args.used) c.made.ensures c.add_weights-sum.ensures

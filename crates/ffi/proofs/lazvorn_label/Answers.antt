@@ -1,8 +1,0 @@
--- `ffi::lazvorn_label` meets its contract: the operation's outcome, with its answer as numbers. Assumes nothing.
-use Rattle.table.specs.Refusal.{made_numbers}
-use Rattle.ffi.proofs.Numbered.{is_numbered}
-use Rattle.ffi.proofs.lazvorn_label.Goals as goal
-
-pub returns : goal.returns
-returns c =
-    is_numbered (made_numbers c.args.used) c.made.ensures c.label-labelled.ensures
