@@ -1,6 +1,6 @@
 -- The starred lines, proved about the definitions by one computed test over the whole table.
 use mathlib.Core.Path.{◌≡◌, refl}
-use mathlib.Core.List.{List, map}
+use mathlib.Core.List.{map}
 use Rattle.calculus.specs.Tree.{size}
 use Rattle.calculus.specs.Bytes as bytes
 use Rattle.calculus.specs.Abstraction as abstraction

@@ -1,16 +1,15 @@
 -- A row of the table of worked examples: an input, and the line that the definitions give for it. Assumes nothing: these are definitions.
-use Rattle.std.specs.Prelude.{ℕ, ◌+◌, ◌-◌, ◌*◌, List, [], ◌∷◌, ◌++◌, map, length, replicate, take, get_or}
+use Rattle.std.specs.Prelude.{ℕ, ◌+◌, ◌-◌, ◌*◌, List, [], ◌∷◌, ◌++◌, map, replicate, take, get_or, Result, Ok, Err}
 use Rattle.table.specs.Nodes.{tree_at}
 use Rattle.table.specs.Outcome.{Outcome}
 use Rattle.table.specs.Refusal.{Numbers, number}
+use Rattle.table.specs.declared.Refusal.{Refusal}
 use Rattle.table.specs.declared.Made.{Made}
-use Rattle.table.specs.declared.Made.TheVariants as made
 use Rattle.ternary.specs.Text.{text}
 use Rattle.ternary.specs.Read.{read}
 use Rattle.translation.specs.Translate.{translate}
 use Rattle.applying.specs.Apply.{apply}
 use Rattle.applying.specs.declared.Applied.{Applied}
-use Rattle.applying.specs.declared.Applied.TheVariants as applied
 use Rattle.fields.specs.Packet.{field_bytes, argument_bytes}
 use Rattle.running.specs.Run as run
 use Rattle.running.specs.declared.Ran.{Ran}
@@ -48,13 +47,13 @@ gives k n l = record { refusal = 0; steps = k; nodes = n; digits = ascii l }
 abbrev ample : List ℕ
 ample = replicate 120 0
 
-unfoldable pub after_made : Outcome Made → Made → (List ℕ → ℕ → ℕ → Line) → Line
-after_made o (made.Node v u) next = next o.table u v
-after_made o (made.Refused e) next = refused (number e)
+unfoldable pub after_made : Outcome (Result Made Refusal) → Result Made Refusal → (List ℕ → ℕ → ℕ → Line) → Line
+after_made o (Ok m) next = next o.table m.used m.node
+after_made o (Err e) next = refused (number e)
 
-unfoldable pub after_applied : Outcome Applied → Applied → (List ℕ → ℕ → ℕ → ℕ → Line) → Line
-after_applied o (applied.Node v u j k) next = next o.table u v j
-after_applied o (applied.Refused e) next = refused (number e)
+unfoldable pub after_applied : Outcome (Result Applied Refusal) → Result Applied Refusal → (List ℕ → ℕ → ℕ → ℕ → Line) → Line
+after_applied o (Ok m) next = next o.table m.used m.node m.steps
+after_applied o (Err e) next = refused (number e)
 
 -- node v is applied to the nodes in order, with `frames` frames, after k steps; u₀ nodes were in use before
 unfoldable pub apply_line : List ℕ → ℕ → ℕ → ℕ → List ℕ → ℕ → ℕ → ℕ → Line
@@ -69,7 +68,7 @@ read_all (l ∷ ls) w u next =
     let o = read w u ample (ascii l) in
     after_made o o.answer (λ w' u' n. read_all ls w' u' (λ ns. next (n ∷ ns)))
 
-unfoldable pub place : List ℕ → Program → Outcome Made
+unfoldable pub place : List ℕ → Program → Outcome (Result Made Refusal)
 place w (rule b) = translate w 0 ample b
 place w (tree l) = read w 0 ample (ascii l)
 
@@ -79,7 +78,7 @@ taken p ls =
     let o = place (replicate 80 0) p in
     (after_made o o.answer (λ w u v. read_all ls w u (λ ns w' u'. apply_line [] 0 0 0 w' u' v 0))).nodes
 
-unfoldable pub run_line : Outcome Ran → Numbers → Line
+unfoldable pub run_line : Outcome (Result Ran Refusal) → Numbers → Line
 run_line o n = record { refusal = n.refusal; steps = n.steps; nodes = n.used; digits = take n.digits o.out }
 
 unfoldable pub line : Input → Line

@@ -1,6 +1,6 @@
 -- The starred lines of document 01 (its examples), and its packet's line, as one table of inputs and the lines that they give. The numbers of nodes are those
 -- of request [8].
-use Rattle.std.specs.Prelude.{◌≡◌, refl, List, [], ◌∷◌, map}
+use Rattle.std.specs.Prelude.{List, [], ◌∷◌}
 use Rattle.examples.specs.Rows.{Input, reads, applies, packet, rule, tree, Line, refused, gives}
 
 pub record Row : Type 0 where

@@ -1,2 +1,0 @@
--- The laws that the proofs of the program's functions cite.
-pub mod Within
