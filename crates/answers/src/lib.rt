@@ -1,5 +1,6 @@
 // The numbers of the operations' answers, as the exported functions put them into the caller's array: five, or what the operation says. The answers of
-// Apply and Run, with their uses, are in the crate `counted`. specs/ says in which order they stand.
+// Apply and Run, with their uses, are in the crate `counted`. specs/ says in which order they stand. They are functions and no
+// `From`, since neither type is of this crate and most take the count of used nodes at entry besides.
 #![tactic(auto)]
 
 ghost use Rattle.std.specs.Prelude.{◌≡◌};

@@ -1,5 +1,6 @@
 // The ten numbers of the answers of Apply and Run, as the exported functions put them into the caller's array: the five, and the uses of leaf, stem,
-// drop, spread and triage. The definitions are in the crates `applying`, `running` and `answers`.
+// drop, spread and triage. The definitions are in the crates `applying`, `running` and `answers`. They are functions and no `From`, since
+// neither type is of this crate.
 #![tactic(auto)]
 
 ghost use Rattle.std.specs.Prelude.{◌≡◌};

@@ -64,7 +64,7 @@ pub fn generate(seed: u32, n: usize, out: &mut [u8]) -> Result<usize, Refusal>
     Ok(n)
 }
 
-// The numbers of the answer: the refusal or 0, and how many digits were written.
+// The numbers of the answer: the refusal or 0, and how many digits were written. No `From`, since neither type is of this crate.
 pub fn numbers(answer: Result<usize, Refusal>) -> [usize; 2]
     ensures { result ≡ generated_numbers answer }
 {

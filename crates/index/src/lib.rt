@@ -1,6 +1,9 @@
 // A hashed index of a table's used nodes, in memory that the operation owns: it finds the node with given words without going through the table. An
 // entry is 0 if it is empty, else a node's number. The leaf is node 0 of every table in use and needs no entry; so a number fits 16 bits, and an index
 // takes half the memory of one that has an entry for it. Nodes are wanted in one place, here.
+//
+// An index is lent as its entries and its number of slots. A struct with a const parameter for its length would make the engine anew for each length, and
+// the recursive `lay` of the crate `term` has no proof with it; `Ready` speaks of the lent table besides, so that it stays a clause.
 #![tactic(auto)]
 
 ghost use Rattle.std.specs.Prelude.{◌≡◌, ◌+◌, ◌*◌, ◌≤◌, ◌<◌, length};
@@ -47,10 +50,9 @@ pub fn search(table: &[u32], used: usize, index: &[u16], slots: usize, a: usize,
         }
         return Found::Node(0);
     }
-    let mut at = home(a, b, slots);
+    let mut from = home(a, b, slots);
     'blocks: loop {
-        let end = at + 8;
-        while at < end {
+        for at in from..from + 8 {
             let n = index[at] as usize;
             if n == 0 {
                 break 'blocks Found::Place(at);
@@ -58,8 +60,8 @@ pub fn search(table: &[u32], used: usize, index: &[u16], slots: usize, a: usize,
             if has_words(table, n, a, b) {
                 break 'blocks Found::Node(n);
             }
-            at += 1;
         }
+        from += 8;
     }
 }
 

@@ -8,7 +8,7 @@ ghost use Rattle.nodes.specs.Code.{placed_by};
 
 use table::Made;
 
-// A lent word as a number.
+// A lent word as a number, by a cast: std has no `From<u32>` for `usize`.
 pub fn word(words: &[u32], i: usize) -> usize
     requires { i < length words.now }
     ensures { (result ≡ get_or words.now i 0) × (result < 4294967296) }

@@ -6,7 +6,7 @@ ghost use Rattle.table.specs.Refusal.{number, given_numbers};
 
 use table::Refusal;
 
-// The number of a refusal.
+// The number of a refusal, by name, since the papers give it. A function and no `From`: an impl stands with the enum, in a crate of definitions.
 #[tactic(auto, unfolding(table::specs::Refusal::number))]
 pub fn number(refusal: Refusal) -> usize
     ensures { result ≡ number refusal }
@@ -29,7 +29,7 @@ pub fn number(refusal: Refusal) -> usize
     }
 }
 
-// The numbers of an answer that gives a number or none.
+// The numbers of an answer that gives a number or none. No `From`, since neither type is of this crate.
 #[tactic(auto, unfolding(table::specs::Refusal::given_numbers))]
 pub fn given(answer: Result<Option<usize>, Refusal>) -> [usize; 3]
     ensures { result ≡ given_numbers answer }

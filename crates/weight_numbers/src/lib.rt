@@ -8,7 +8,7 @@ ghost use Rattle.weights.specs.Weights.{weighed_numbers, ordered_numbers};
 use std::cmp::Ordering;
 use table::Refusal;
 
-// The refusal, and the grams.
+// The refusal, and the grams. No `From` here and below, since neither type is of this crate.
 #[tactic(auto, unfolding(weights::specs::Weights::weighed_numbers))]
 pub fn weighed(answer: Result<usize, Refusal>) -> [usize; 2]
     ensures { result ≡ weighed_numbers answer }
