@@ -29,10 +29,7 @@ fn apply_checked(
     requires { Ready table.old used slots index.old × (at_entry (leb limit 1000000) table.old used stack.old ≡ none) }
     ensures { whole result table.new stack.new ≡ apply table.old used stack.old function argument limit }
 {
-    if used <= function {
-        return Err(Refusal::Node);
-    }
-    if used <= argument {
+    if used <= function || used <= argument {
         return Err(Refusal::Node);
     }
     let ended = machine::apply_nodes(table, used, stack, function, argument, limit, index, slots);
@@ -60,6 +57,7 @@ fn apply_in<const N: usize>(
 }
 
 // Applies one node to another.
+#[tactic(auto, using(crate::proofs::Entered::long_table, crate::proofs::Entered::over_limit, crate::proofs::Entered::long_frames))]
 pub fn apply(
     table: &mut [u32],
     used: usize,

@@ -138,6 +138,7 @@ fn more(used: usize, function: usize, argument: usize, held: usize, uses: Uses) 
 }
 
 // The last application gave node v: what the last frame held takes it on.
+#[tactic(auto, using(crate::proofs::Held::none_left, crate::proofs::Held::spread_left, crate::proofs::Held::second_left, crate::proofs::Held::triage_left))]
 pub fn resume(stack: &mut [u32], used: usize, held: usize, uses: Uses, v: usize) -> Turned
     requires { (held * 3 ≤ length stack.old) × (v < 4294967296) }
     ensures { (w : List ℕ) → turn_of result w stack.new ≡ resume (record { words = w; used = used }) (frames_of stack.old held) uses v }
@@ -160,6 +161,7 @@ pub fn resume(stack: &mut [u32], used: usize, held: usize, uses: Uses, v: usize)
 }
 
 // Node f is applied to node n, and the frame is held meanwhile, if one is free. The uses are those with this one.
+#[tactic(auto, using(crate::proofs::Held::hold_full, crate::proofs::Held::hold_free))]
 pub fn hold(
     stack: &mut [u32],
     state: Machine,

@@ -46,6 +46,7 @@ fn uses(
 }
 
 // A stop: the rule that is wanted is read, and then the words of the nodes that were made are cleared.
+#[tactic(auto, using(rules::proofs::Steps::reach))]
 fn undo(table: &mut [u32], used: usize, state: Machine, refusal: Refusal) -> Stopped
     requires { (used ≤ state.used) × Sound (record { words = table.old; used = state.used }) × (state.function < state.used) × (steps (uses_of state) ≤ 1000000) }
     ensures { (result ≡ record { refusal = refusal; steps = steps (uses_of state); rule = rule table.old state.function })
@@ -61,6 +62,7 @@ fn undo(table: &mut [u32], used: usize, state: Machine, refusal: Refusal) -> Sto
 }
 
 // The answer where an application ends that had `used` nodes in use at entry. The stack is cleared, and after a refusal the new nodes too.
+#[tactic(auto, using(crate::proofs::Settled::settle_done, crate::proofs::Settled::settle_more, crate::proofs::Settled::settle_nodes, crate::proofs::Settled::settle_frames))]
 fn settle(
     table: &mut [u32],
     stack: &mut [u32],
