@@ -2,8 +2,7 @@
 // the crate `labelling`.
 //
 // The stages share one index of the table's nodes, which is empty at first, as the table is. It is in five sizes, so that a table pays for an index about as
-// long as it needs. The longest are met after the most tests: a compiler that takes a call behind many tests for a rare one gives its array a frame of its own,
-// which the shorter tables then do not touch.
+// long as it needs. Each size is a call of its own, so that a short table does not touch the room of a long index.
 #![tactic(auto)]
 
 ghost use Rattle.std.specs.Prelude.{◌≡◌};
@@ -18,6 +17,7 @@ use table::Refusal;
 
 // The stages on a packet that passed the checks and whose label's field stands at a position, with an index of N places, two thirds of them slots, for a
 // table of half as many nodes.
+#[inline(never)]
 fn label_in<const N: usize>(
     table: &mut [u32],
     stack: &mut [u32],

@@ -2,8 +2,7 @@
 // `running`; Run and `stopped` (the crates `run` and `stops`) give each its part of what is told.
 //
 // The stages share one index of the table's nodes, which is empty at first, as the table is. It is in five sizes, so that a table pays for an index about as
-// long as it needs. The longest are met after the most tests: a compiler that takes a call behind many tests for a rare one gives its array a frame of its own,
-// which the shorter tables then do not touch.
+// long as it needs. Each size is a call of its own, so that a short table does not touch the room of a long index.
 #![tactic(auto)]
 
 ghost use Rattle.std.specs.Prelude.{◌≡◌, None, Err};
@@ -28,6 +27,7 @@ fn refused(refusal: Refusal) -> Told
 }
 
 // The stages on a packet of this form that passed the checks, with an index of N entries that serves the table.
+#[inline(never)]
 fn tell_in<const N: usize>(
     table: &mut [u32],
     stack: &mut [u32],
