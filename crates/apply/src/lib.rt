@@ -1,7 +1,7 @@
 // Apply: the checks at entry, then the application (crate `machine`). The definitions are in the crate `applying`.
 //
-// The operation has an index of its own (crate `index`), in four sizes, so that a table pays for an index about as long as it needs. The longest are met after
-// the most tests: a compiler that takes a call behind many tests for a rare one gives its array a frame of its own, which the shorter tables then do not touch.
+// The operation has an index of its own (crate `index`), in four sizes, so that a table pays for an index about as long as it needs. Each size is a call
+// of its own, which is not inlined, so that a short table does not touch the room of a long index.
 #![tactic(auto)]
 
 ghost use Rattle.std.specs.Prelude.{◌≡◌, ◌+◌, ◌*◌, ◌/◌, ◌≤◌, leb};
@@ -37,6 +37,7 @@ fn apply_checked(
 }
 
 // Apply with an index of N entries, of which two thirds are slots.
+#[inline(never)]
 fn apply_in<const N: usize>(
     table: &mut [u32],
     used: usize,

@@ -1,8 +1,7 @@
 // The checks at entry of an operation that makes no nodes: 1, then 2. The definitions are in the crate `table`.
 //
-// The check for 2 has an index of its own (crate `index`), in four sizes, so that a table pays for an index about as long as it needs. The longest are met
-// after the most tests: a compiler that takes a call behind many tests for a rare one gives its array a frame of its own, which the shorter tables then do not
-// touch.
+// The check for 2 has an index of its own (crate `index`), in four sizes, so that a table pays for an index about as long as it needs. Each size is a
+// call of its own, which is not inlined, so that a short table does not touch the room of a long index.
 #![tactic(auto)]
 
 ghost use Rattle.std.specs.Prelude.{◌≡◌, ◌+◌, ◌*◌, ◌/◌, ◌≤◌};
@@ -14,6 +13,7 @@ ghost use Rattle.index.specs.Index.{Serves};
 use table::Refusal;
 
 // The checks with an index of N entries, of which two thirds are slots.
+#[inline(never)]
 fn check_in<const N: usize>(
     within: bool,
     table: &[u32],

@@ -1,5 +1,5 @@
 // Label as an operation on lent memory: the checks, then the crate `label`. It owns the index of the table's nodes (crate `index`), in five sizes, so that
-// a table pays for an index about as long as it needs; the longest are met after the most tests, as in the crate `entry_check`.
+// a table pays for an index about as long as it needs; each size is a call of its own, which is not inlined, as in the crate `entry_check`.
 #![tactic(auto)]
 
 ghost use Rattle.std.specs.Prelude.{◌≡◌, true, [], ◌+◌, ◌*◌, ◌/◌, ◌≤◌};
@@ -30,6 +30,7 @@ fn label_checked(
 }
 
 // Label with an index of N entries, of which two thirds are slots.
+#[inline(never)]
 fn label_in<const N: usize>(
     table: &mut [u32],
     used: usize,

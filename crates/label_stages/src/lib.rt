@@ -31,6 +31,7 @@ fn write_labelled(
     ensures { whole_out result table.new stack.new out.new
         ≡ labels table.old used stack.old out.old rule label }
 {
+    // No uses, written out: the crate of the type has definitions alone.
     let uses = Uses {
         leaf: 0,
         stem: 0,

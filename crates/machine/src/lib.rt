@@ -106,6 +106,7 @@ pub fn apply_nodes(
     requires { Ready table.old used slots index.old × (function < used) × (argument < used) × (limit ≤ 1000000) }
     ensures { (whole result table.new stack.new ≡ apply_ended table.old used stack.old function argument limit) × ReadyEnded result table.new slots index.new }
 {
+    // No uses, written out: the crate of the type has definitions alone.
     let none = Uses {
         leaf: 0,
         stem: 0,

@@ -8,7 +8,7 @@ ghost use Rattle.fields.specs.Packet as reading;
 ghost use Rattle.fields.specs.Packet.{after_limit, after_arguments, after_rule};
 ghost use Rattle.packet.specs.Code.{part_at, end_in, fields_from, with_fields, form_of, counted};
 
-// Where a field's value stands: packet[start..end].
+// Where a field's value stands: packet[start..end]. A struct of its own, since a `Range` is no `Copy`.
 #[derive(Clone, Copy)]
 pub struct Part {
     pub start: usize,

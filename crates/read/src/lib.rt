@@ -1,8 +1,8 @@
 // Read as a public operation: 1 and 2 by the checks at entry, which fill an index of the table's nodes, then the crate `reader`. The definitions and the
 // laws that callers cite are in the crate `ternary`.
 //
-// The index is an array of its own, in four sizes, so that a table pays for an index about as long as it needs. The longest are met after the most tests,
-// and the work of the call stands beside the array: so a compiler gives them frames of their own, which the shorter tables then do not touch.
+// The index is an array of its own, in four sizes, so that a table pays for an index about as long as it needs. Each size is a call of its own, which
+// is not inlined, so that a short table does not touch the room of a long index.
 #![tactic(auto)]
 
 ghost use Rattle.std.specs.Prelude.{◌≡◌, ◌*◌, ◌/◌, ◌≤◌, length};
@@ -13,6 +13,7 @@ ghost use Rattle.index.specs.Index.{Serves};
 use table::{Made, Refusal};
 
 // With an index of N entries, of which two thirds are slots: for a table of at most N / 3 nodes.
+#[inline(never)]
 fn read_in<const N: usize>(
     table: &mut [u32],
     used: usize,

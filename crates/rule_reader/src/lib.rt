@@ -1,7 +1,7 @@
 // Rule text to a rule's bytes, with arrays of its own. The definition is in the crate `grammar`. Assumes nothing.
 //
-// The arrays are in six sizes, so that a text pays for arrays about as long as it needs. The longest are met after the most tests: a compiler that
-// takes a call behind many tests for a rare one gives its arrays a frame of their own, which the shorter texts then do not touch.
+// The arrays are in six sizes, so that a text pays for arrays about as long as it needs. Each size is a call of its own, which is
+// not inlined, so that a short text does not touch the room of long arrays.
 #![tactic(auto)]
 
 ghost use Rattle.std.specs.Prelude.{◌≡◌, [], ◌*◌, ◌≤◌, length};
@@ -14,6 +14,7 @@ use table::Refusal;
 const MOST_BYTES: usize = 8192;
 
 // A text, in arrays of so many words, names and symbols.
+#[inline(never)]
 fn read_in<const WORDS: usize, const NAMES: usize, const SYMBOLS: usize>(
     text: &[u8],
     out: &mut [u8],

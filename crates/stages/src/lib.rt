@@ -73,6 +73,7 @@ fn apply_all(
 {
     let mut node = rule;
     let mut in_use = used;
+    // No uses, written out: the crate of the type has definitions alone.
     let mut uses = Uses {
         leaf: 0,
         stem: 0,
