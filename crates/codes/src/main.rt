@@ -10,7 +10,7 @@ ghost use Rattle.codes.specs.Code.{RoomFor};
 use std::io;
 
 // Puts into out, from place `at` on, the values of the texts that have n digits more and use up `wanted` trees, after a beginning of the value `value`; the
-// place after them.
+// place after them. An array and a place in it: no heap is used.
 fn put_values(n: usize, wanted: usize, value: usize, out: &mut [u32], at: usize) -> usize
     requires { RoomFor n wanted value out.old at }
     ensures { Wrote out.old at (values_from n wanted value) result out.new }

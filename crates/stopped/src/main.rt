@@ -25,7 +25,7 @@ fn print<W: Write>(output: &mut W, stopped: Stopped) -> io::Result<()> {
     }
 }
 
-// Runs the packet that is read, with the memory that the program `lazvorn` lends.
+// Runs the packet that is read, with the memory that the program `lazvorn` lends. The line needs no out bytes, so the call is plainer than `lines::answer`.
 fn main(rt: HostRuntime) -> io::Result<()> {
     let mut packet = [0u8; lines::PACKET_BYTES];
     let n = streams::read_full(&mut rt.reader(), &mut packet)?;
