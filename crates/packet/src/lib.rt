@@ -1,5 +1,6 @@
 // The fields of a packet: where the rule, the arguments' texts and the label's stand in it, and the step limit. The definition is in the crate `fields`,
-// the laws that callers cite are in proofs/. A value is a part of the packet, `&packet[start..end]`, and is not copied.
+// the laws that callers cite are in proofs/. A value is a part of the packet, `&packet[start..end]`, and is not copied. The tags 1 to 4
+// are numbers, since they are bytes of the packet as the papers have it.
 #![tactic(auto)]
 
 ghost use Rattle.std.specs.Prelude.{◌≡◌, List, ℕ, ◌+◌, ◌≤◌, ◌<◌, length, take, drop};

@@ -1,5 +1,5 @@
 // The nodes of rule and label out of a labelled tree. The definition and its theorems are in the crate `labelled`; specs/ says what the code's own values
-// mean in its terms.
+// mean in its terms. That a node is in use is a clause and no type, since the table is lent.
 #![tactic(auto)]
 
 ghost use Rattle.std.specs.Prelude.{◌≡◌, ok_or};
