@@ -64,7 +64,8 @@ pub fn generate(seed: u32, n: usize, out: &mut [u8]) -> Result<usize, Refusal>
     Ok(n)
 }
 
-// The numbers of the answer: the refusal or 0, and how many digits were written. No `From`, since neither type is of this crate.
+// The numbers of the answer: the refusal or 0, and how many digits were written. No `From`, since neither type is of this crate;
+// and no function shared with `encoded` of `answers`, since each states a definition of its own.
 pub fn numbers(answer: Result<usize, Refusal>) -> [usize; 2]
     ensures { result ≡ generated_numbers answer }
 {

@@ -15,8 +15,8 @@ ghost use Rattle.index.specs.Index.{Serves};
 use running::Ran;
 use table::Refusal;
 
-// The stages on a packet that passed the checks and whose label's field stands at a position, with an index of N places, two thirds of them slots, for a
-// table of half as many nodes.
+// The stages on a packet that passed the checks and whose label's field stands at a position, with an index of N entries
+// that serves the table.
 #[inline(never)]
 fn label_in<const N: usize>(
     table: &mut [u32],

@@ -8,7 +8,8 @@ ghost use Rattle.weights.specs.Weights.{weighed_numbers, ordered_numbers};
 use std::cmp::Ordering;
 use table::Refusal;
 
-// The refusal, and the grams. No `From` here and below, since neither type is of this crate.
+// The refusal, and the grams. No `From` here and below, since neither type is of this crate; and no function shared with `encoded` of `answers`, since each
+// states a definition of its own.
 #[tactic(auto, unfolding(weights::specs::Weights::weighed_numbers))]
 pub fn weighed(answer: Result<usize, Refusal>) -> [usize; 2]
     ensures { result ≡ weighed_numbers answer }
