@@ -23,6 +23,15 @@ pub struct Phrase {
     pub end: usize,
 }
 
+// A place: in the words, among the names around it, and in the symbols. The arrays stay slices: a struct that
+// lends them must also promise that each stays the same array and as long.
+#[derive(Clone, Copy)]
+pub struct Place {
+    pub at: usize,
+    pub k: usize,
+    pub w: usize,
+}
+
 // Looks for a name among those around, nearest first: how many abstractions lie between the name and its own.
 fn find(names: &[u64], x: u64) -> Option<usize>
     ensures { result ≡ place_of (lookup names.now x) }
@@ -41,31 +50,24 @@ fn is_name(t: u64) -> bool
 }
 
 // A leaf or a name.
-fn atom(
-    words: &[u64],
-    at: usize,
-    names: &[u64],
-    k: usize,
-    post: &mut [u16],
-    w: usize,
-) -> Option<Phrase>
-    requires { Asks words.now at names.now k post.old w × (at < length words.now) × (get_or words.now at 0 ≡ OPENING → ⊥) × (get_or words.now at 0 ≡ BACKSLASH → ⊥) }
-    ensures { (d : ℕ) → Tells (operand d (drop k names.now) (tokens (drop at words.now))) words.now w post.old post.new result }
+fn atom(words: &[u64], names: &[u64], post: &mut [u16], place: Place) -> Option<Phrase>
+    requires { Asks words.now place.at names.now place.k post.old place.w × (place.at < length words.now) × (get_or words.now place.at 0 ≡ OPENING → ⊥) × (get_or words.now place.at 0 ≡ BACKSLASH → ⊥) }
+    ensures { (d : ℕ) → Tells (operand d (drop place.k names.now) (tokens (drop place.at words.now))) words.now place.w post.old post.new result }
 {
-    let t = words[at];
+    let t = words[place.at];
     let phrase = Phrase {
-        next: at + 1,
-        end: w + 1,
+        next: place.at + 1,
+        end: place.w + 1,
     };
     if t == CARET {
-        post[w] = LEAF;
+        post[place.w] = LEAF;
         return Some(phrase);
     }
     if !is_name(t) {
         return None;
     }
-    let i = find(&names[k..], t)?;
-    post[w] = i as u16 + VARIABLE;
+    let i = find(&names[place.k..], t)?;
+    post[place.w] = i as u16 + VARIABLE;
     Some(phrase)
 }
 
@@ -117,60 +119,68 @@ fn close_group(words: &[u64], inner: Phrase) -> Option<Phrase>
 #[cycle(expression_operand)]
 fn operand(
     words: &[u64],
-    at: usize,
-    depth: usize,
     names: &mut [u64],
-    k: usize,
     post: &mut [u16],
-    w: usize,
+    place: Place,
+    depth: usize,
 ) -> Option<Phrase>
-    requires { Asks words.now at names.old k post.old w }
-    ensures { Tells (operand depth (drop k names.old) (tokens (drop at words.now))) words.now w post.old post.new result
-        × (drop k names.new ≡ drop k names.old) }
+    requires { Asks words.now place.at names.old place.k post.old place.w }
+    ensures { Tells (operand depth (drop place.k names.old) (tokens (drop place.at words.now))) words.now place.w post.old post.new result
+        × (drop place.k names.new ≡ drop place.k names.old) }
 {
-    if words.len() <= at {
+    if words.len() <= place.at {
         return None;
     }
-    let t = words[at];
+    let t = words[place.at];
     if t == OPENING {
         if depth == 0 {
             return None;
         }
-        let inner = expression(words, at + 1, depth - 1, names, k, post, w)?;
+        let inside = Place {
+            at: place.at + 1,
+            ..place
+        };
+        let inner = expression(words, names, post, inside, depth - 1)?;
         return close_group(words, inner);
     }
     if t == BACKSLASH {
-        let n = open_abstractions(words, at, names, k);
+        let n = open_abstractions(words, place.at, names, place.k);
         if n == 0 {
             return None;
         }
-        let body = expression(words, at + 3 * n, depth, names, k - n, post, w)?;
+        let inside = Place {
+            at: place.at + 3 * n,
+            k: place.k - n,
+            ..place
+        };
+        let body = expression(words, names, post, inside, depth)?;
         let end = operators::put(post, body.end, n, ABSTRACTION);
         return Some(Phrase { end, ..body });
     }
-    atom(words, at, names, k, post, w)
+    atom(words, names, post, place)
 }
 
 // An expression, up to the end of the words or a closing parenthesis.
 #[cycle(expression_operand)]
 pub fn expression(
     words: &[u64],
-    at: usize,
-    depth: usize,
     names: &mut [u64],
-    k: usize,
     post: &mut [u16],
-    w: usize,
+    place: Place,
+    depth: usize,
 ) -> Option<Phrase>
-    requires { Asks words.now at names.old k post.old w }
-    ensures { Tells (parse depth (drop k names.old) empty (tokens (drop at words.now))) words.now w post.old post.new result
-        × (drop k names.new ≡ drop k names.old) }
+    requires { Asks words.now place.at names.old place.k post.old place.w }
+    ensures { Tells (parse depth (drop place.k names.old) empty (tokens (drop place.at words.now))) words.now place.w post.old post.new result
+        × (drop place.k names.new ≡ drop place.k names.old) }
 {
-    let mut waiting = operators::begin(words, at, w, 0, 0, 0);
+    let mut waiting = operators::begin(words, place.at, place.w, 0, 0, 0);
     loop {
-        let from = waiting.at;
-        let place = waiting.end;
-        let Phrase { next, end } = operand(words, from, depth, names, k, post, place)?;
+        let from = Place {
+            at: waiting.at,
+            w: waiting.end,
+            ..place
+        };
+        let Phrase { next, end } = operand(words, names, post, from, depth)?;
         match operators::after(words, next, post, end, waiting)? {
             Step::More(more) => waiting = more,
             Step::Done(done) => return Some(Phrase { next, end: done }),

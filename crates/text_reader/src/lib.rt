@@ -14,6 +14,7 @@ ghost use Rattle.grammar.specs.Text.{of_words};
 ghost use Rattle.grammar.specs.Outcome.{of_bytes, of_reading, rule_text};
 ghost use Rattle.text_reader.specs.Code.{Stands, StandsSome, WordRoom, TextRoom};
 
+use parser::Place;
 use table::Refusal;
 
 // The symbols of a rule end with that of an abstraction.
@@ -74,8 +75,12 @@ fn read_words(
     requires { WordRoom words.now names.old post.old }
     ensures { whole_out result [] [] out.new ≡ of_reading (of_words (some words.now)) out.old }
 {
-    let k = names.len();
-    let phrase = parser::expression(words, 0, MOST_PARENTHESES, names, k, post, 0).ok_or(
+    let start = Place {
+        at: 0,
+        k: names.len(),
+        w: 0,
+    };
+    let phrase = parser::expression(words, names, post, start, MOST_PARENTHESES).ok_or(
         Refusal::RuleText,
     )?;
     if phrase.next < words.len() {

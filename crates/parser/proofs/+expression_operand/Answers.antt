@@ -44,17 +44,17 @@ expression-returns-in-Done t c =
     let s = c.after.ensures c.args.depth _ v.goes.p v.goes.f o.e _ in
     (tell (carried_done _ _ _ _ _ _ _ c.requires _ _ _ v _ _ _ o _ _ s (c.in_ok-more.was ∙ ap Some c.in-Done.is) (c.after.auto.post ∙ c.operand.auto.post)), c.operand.ensures.1 ∙ v.same)
 
-pub operand-returns-then-words-at : goal.operand-returns-then-words-at
-operand-returns-then-words-at t c = (tell_nothing _ _ _ _ _ _ (none_here _ _ _ _ c.if-words-at.true) refl, refl)
+pub operand-returns-then-words-place : goal.operand-returns-then-words-place
+operand-returns-then-words-place t c = (tell_nothing _ _ _ _ _ _ (none_here _ _ _ _ c.if-words-place.true) refl, refl)
 
 pub operand-returns-then-depth-eq0 : goal.operand-returns-then-depth-eq0
-operand-returns-then-depth-eq0 t c = (tell_nothing _ _ _ _ _ _ (too_deep _ _ _ _ c.if-words-at.false c.if-t-eq-OPENING.true c.if-depth-eq0.true) refl, refl)
+operand-returns-then-depth-eq0 t c = (tell_nothing _ _ _ _ _ _ (too_deep _ _ _ _ c.if-words-place.false c.if-t-eq-OPENING.true c.if-depth-eq0.true) refl, refl)
 
 pub operand-returns-in_err-inner : goal.operand-returns-in_err-inner
-operand-returns-in_err-inner t c = (tell_nothing _ _ _ _ _ _ (group_nothing _ _ _ _ c.if-words-at.false c.if-t-eq-OPENING.true c.if-depth-eq0.false (told_nothing _ _ _ _ _ _ c.expression.ensures.0 c.in_err-inner.was)) c.from_residual.ensures, c.expression.ensures.1)
+operand-returns-in_err-inner t c = (tell_nothing _ _ _ _ _ _ (group_nothing _ _ _ _ c.if-words-place.false c.if-t-eq-OPENING.true c.if-depth-eq0.false (told_nothing _ _ _ _ _ _ c.expression.ensures.0 c.in_err-inner.was)) c.from_residual.ensures, c.expression.ensures.1)
 
 pub operand-returns-then-t-eq-OPENING : goal.operand-returns-then-t-eq-OPENING
-operand-returns-then-t-eq-OPENING t c = (rw c.close_group.ensures (group_told _ _ _ _ _ _ _ c.if-words-at.false c.if-t-eq-OPENING.true c.if-depth-eq0.false _ _ (told_phrase _ _ _ _ _ _ c.expression.ensures.0 c.in_ok-inner.was)), c.expression.ensures.1)
+operand-returns-then-t-eq-OPENING t c = (rw c.close_group.ensures (group_told _ _ _ _ _ _ _ c.if-words-place.false c.if-t-eq-OPENING.true c.if-depth-eq0.false _ _ (told_phrase _ _ _ _ _ _ c.expression.ensures.0 c.in_ok-inner.was)), c.expression.ensures.1)
 
 pub operand-returns-then-n-eq0 : goal.operand-returns-then-n-eq0
 operand-returns-then-n-eq0 t c = (tell_nothing _ _ _ _ _ _ (c.open_abstractions-n.ensures.1 c.if-n-eq0.true _ _) refl, c.open_abstractions-n.ensures.0.kept)
