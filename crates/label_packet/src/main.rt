@@ -4,7 +4,7 @@
 
 use std::io;
 
-// Labels the rule of the packet that is read.
+// Labels the rule of the packet that is read. A program is a crate of its own, so that these lines stand in each.
 fn main(rt: HostRuntime) -> io::Result<()> {
     let mut packet = [0u8; lines::PACKET_BYTES];
     let n = streams::read_full(&mut rt.reader(), &mut packet)?;

@@ -39,7 +39,7 @@ fn find(names: &[u64], x: u64) -> Option<usize>
     names.iter().position(|&y| x == y)
 }
 
-// Whether a word is a name.
+// Whether a word is a name. The signs are listed as in `lexer`, which has them as bytes and which this crate does not use.
 fn is_name(t: u64) -> bool
     ensures { IsName t result }
 {
