@@ -5,7 +5,7 @@ use mathlib.Core.Bool.{true}
 use mathlib.Core.List.{List, [], ◌∷◌, ◌++◌, append-nil, append_assoc}
 use mathlib.Core.Option.{some}
 use native.Mathlib.Omega.{arith}
-use lib.ListN.{length, get_or, set, drop, length-append, length-drop}
+use lib.ListN.{length, get_or, set, drop, length-append}
 use lib.Seq.{set_at, drop-length}
 use Rattle.table.proofs.Lists.{from_place}
 use Rattle.ternary.proofs.Wanted.{after_digit}
@@ -45,9 +45,6 @@ unfolding next_drawing digit_at
 next_drawing_lem left s w b z t = ap (λ o. record { state = next_state s; wanted = o }) (sym (after_digit (pick (allowed left (some w)) (drawn s)) w b z (sym t.0) t.1))
 
 module _ {seed : ℕ} {out₀ : List ℕ} {i s w : ℕ} {out : List ℕ} (x : WritingLoad seed out₀ i s w out) where
-  pub writing_length : length out ≡ length out₀
-  writing_length = ap length x.bytes ∙ length-append x.digits (drop i out₀) ∙ omega (arith, x.many, x.inside, length-drop i out₀)
-
   -- so many digits are left after this one
   module _ (left : ℕ) (h : left + 1 + i ≡ length out₀) where
     one_more : length out₀ - i ≡ suc left

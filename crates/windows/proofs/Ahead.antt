@@ -33,9 +33,6 @@ module _ (week : List (List Window)) (day minute : ℕ) where
   abbrev pub NoneWithin : ℕ → Type 0
   NoneWithin k = (d m : ℕ) (w : Window) → WindowOf week d w → Minutes (week_minute day minute) (week_minute d w.first) m → k * 1440 ≤ m + minute
 
-  pub none_at_first : NoneWithin 0
-  none_at_first d m w o r = omega arith
-
   module _ (input : ValidInput week day minute) where
     stands : {d m k : ℕ} {w : Window} → WindowOf week d w → Minutes (week_minute day minute) (week_minute d w.first) m → k * 1440 ≤ m + minute
         → m + minute < (k + 1) * 1440 → OnDay day minute d w.first m k
