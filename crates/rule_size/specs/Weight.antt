@@ -20,10 +20,10 @@ weight d leaf = leaf_weight d
 weight d (app u v) = weight d u + weight d v
 weight d (var i) = leaf_weight d + 2 * leaf_weight (d - 1 - i)
 
--- a term that was read at `at` under d abstractions: the place after it, and what it counts
-unfoldable pub measured : ℕ → ℕ → Option Term → Optional Measured
-measured at d none = None
-measured at d (some t) = Some (record { next = at + length (bytes t); weight = weight d (translate t) })
+-- a term that was read at `at` under d abstractions: the place after it, and what it counts; 0 and 0 for none
+unfoldable pub measured : ℕ → ℕ → Option Term → Measured
+measured at d none = record { next = 0; weight = 0 }
+measured at d (some t) = record { next = at + length (bytes t); weight = weight d (translate t) }
 
 -- the size of a rule's tree
 unfoldable pub size_of : Option Term → Optional ℕ
