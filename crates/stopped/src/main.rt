@@ -25,13 +25,21 @@ fn print<W: Write>(output: &mut W, stopped: Stopped) -> io::Result<()> {
     }
 }
 
-// Runs the packet that is read, with the memory that the program `lazvorn` lends. The line needs no out bytes, so the call is plainer than `lines::answer`.
-fn main(rt: HostRuntime) -> io::Result<()> {
-    let mut packet = [0u8; lines::PACKET_BYTES];
-    let n = streams::read_full(&mut rt.reader(), &mut packet)?;
+// Runs a packet, with the memory that the program `lazvorn` lends. The line needs no out bytes, so the call is plainer than `lines::answer`. In a
+// function of its own, since `main` would set the memory to 0 twice.
+fn answer<W: Write>(output: &mut W, packet: &[u8]) -> io::Result<()> {
     let mut table = [0u32; lines::TABLE_WORDS];
     let mut stack = [0u32; lines::STACK_WORDS];
     let mut out = [0u8; lines::OUT_BYTES];
-    let stopped = stops::stopped(&mut table, &mut stack, &mut out, &packet[..n]);
-    print(&mut io::writer(&rt), stopped)
+    print(
+        output,
+        stops::stopped(&mut table, &mut stack, &mut out, packet),
+    )
+}
+
+// Runs the packet that is read.
+fn main(rt: HostRuntime) -> io::Result<()> {
+    let mut packet = [0u8; lines::PACKET_BYTES];
+    let n = streams::read_full(&mut rt.reader(), &mut packet)?;
+    answer(&mut io::writer(&rt), &packet[..n])
 }
