@@ -1,6 +1,6 @@
 -- Laws of a packet's form, one for each way that the code goes. Assumes nothing.
 use Prim.Native.Nat.{ℕ, zero, suc, ◌+◌, ◌-◌, ◌*◌, ◌≤◌, ◌<◌}
-use mathlib.Core.Path.{◌≡◌, refl, sym}
+use mathlib.Core.Path.{◌≡◌, ◌∙◌, refl, sym}
 use mathlib.Core.Bool.{Bool, true, false, cond, ◌&&◌}
 use mathlib.Core.List.{List, [], ◌∷◌}
 use mathlib.Core.Option.{Option, none, some}
@@ -183,6 +183,16 @@ module _ (l : List ℕ) (at k : ℕ) (q : List ℕ) where
   pub left_broken : (next : List Field → Option Packet) → at < length l → length l < end_at l at → code.None ≡ counted k (form_of (with_fields next (fields_from l at)))
   unfolding with_fields form_of counted
   left_broken next h n = rw (fields_broken l at h n)
+
+  -- the fields after the rule, of which j may be arguments
+  pub after_end : (j : ℕ) → length l ≤ at
+      → code.Some (record { arguments = k; limit = default_limit; label_size = code.None }) ≡ counted k (form_of (with_fields (after_rule q j) (fields_from l at)))
+  unfolding with_fields after_rule after_arguments
+  after_end j h = limit_end default_limit h ∙ rw (fields_end l at h) (go j)
+    where
+      go : (j : ℕ) → counted k (form_of (with_fields (after_limit q default_limit) (some []))) ≡ counted k (form_of (with_fields (after_rule q j) (some [])))
+      go zero = refl
+      go (suc j) = refl
 
   -- one argument more
   pub after_next : end_at l at ≤ length l → get_or l at 0 ≡ 2 → k < 8
