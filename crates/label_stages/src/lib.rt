@@ -64,7 +64,7 @@ fn read_label(
     let Part { start, end } = packet::part_at(packet, at);
     match reader::read_text(table, used, stack, &packet[start..end], index, slots) {
         Ok(made) => write_labelled(table, made.used, stack, out, rule, made.node, index, slots),
-        Err(e) => endings::stop(table, used, stack, e),
+        Err(refusal) => endings::stop(table, used, stack, refusal),
     }
 }
 
