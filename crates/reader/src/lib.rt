@@ -76,7 +76,9 @@ fn lay_text(
     let mut used_now = used;
     let mut held = 0;
     for &c in text.iter().rev() {
-        let made = lay_digit(table, used_now, stack, held, c, index, slots)?;
+        let Some(made) = lay_digit(table, used_now, stack, held, c, index, slots) else {
+            return None;
+        };
         used_now = made.used;
         held -= (c - b'0') as usize;
         stack[held * 3] = made.node as u32;

@@ -82,7 +82,8 @@ pub fn translate_rule(
         ≡ translate_rule table.old used stack.old (rule bytes.now)) × ReadyMade result table.new slots index.new }
 {
     let nodes = rule_size::rule_size(bytes).ok_or(Refusal::Rule)?;
-    let frames = checks::check_frames(stack, 2 * nodes);
-    frames?;
-    place(table, used, stack, bytes, nodes, index, slots)
+    match checks::check_frames(stack, 2 * nodes) {
+        Ok(()) => place(table, used, stack, bytes, nodes, index, slots),
+        Err(e) => Err(e),
+    }
 }

@@ -31,7 +31,10 @@ pub fn scan(text: &[u8]) -> Option<usize>
     let mut most = 0;
     for &c in text {
         most = most.max(wanted);
-        wanted = wanted_after(c, wanted)?;
+        let Some(next) = wanted_after(c, wanted) else {
+            return None;
+        };
+        wanted = next;
     }
     if wanted == 0 { Some(most) } else { None }
 }

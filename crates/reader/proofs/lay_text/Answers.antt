@@ -26,11 +26,10 @@ loop-c-init c =
 pub lay_digit-requires : goal.lay_digit-requires
 lay_digit-requires c = (c.loop-c.invariant.1.ready, taken (goal.at.lay_digit-requires c).In-Some)
 
-pub returns-in_err-made : goal.returns-in_err-made
-returns-in_err-made c =
+pub returns-in_default : goal.returns-in_default
+returns-in_default c =
     let f = front_less _ _ _ _ c.loop-c.invariant.0 c.in-Some.ensures.steps in
-    rw c.from_residual.ensures
-    (none_laid c.requires.0 c.requires.1 c.loop-c.invariant.1 f.0 f.1 _ _ _ c.lay_digit.ensures.0 c.lay_digit.ensures.1 c.in_err-made.was)
+    none_laid c.requires.0 c.requires.1 c.loop-c.invariant.1 f.0 f.1 _ _ _ c.lay_digit.ensures.0 c.lay_digit.ensures.1 c.in_default.is
 
 pub overflow_sub-held : goal.overflow_sub-held
 overflow_sub-held c = (taken (goal.at.overflow_sub-held c).In-Some).from_leaf
@@ -41,7 +40,7 @@ overflow_sub-held-in-loop-c c = (taken (goal.at.overflow_sub-held-in-loop-c c).I
 pub overflow_cast-stack : goal.overflow_cast-stack
 overflow_cast-stack c =
     let f = front_less _ _ _ _ c.loop-c.invariant.0 c.in-Some.ensures.steps in
-    omega (arith, node_small c.requires.0 c.requires.1 c.loop-c.invariant.1 f.0 f.1 _ _ _ c.lay_digit.ensures.0 c.lay_digit.ensures.1 c.in_ok-made.was)
+    omega (arith, node_small c.requires.0 c.requires.1 c.loop-c.invariant.1 f.0 f.1 _ _ _ c.lay_digit.ensures.0 c.lay_digit.ensures.1 c.in-Some-lay_digit.is)
 
 pub overflow_mul-stack : goal.overflow_mul-stack
 overflow_mul-stack c = omega (arith, framed (goal.at.overflow_mul-stack c).In-Some, c.loop-c.invariant.1.same_stack, c.well_formed)
@@ -58,7 +57,7 @@ overflow_add-held c = omega (arith, framed (goal.at.overflow_add-held c).In-Some
 pub loop-c-preserved : goal.loop-c-preserved
 loop-c-preserved c =
     let f = front_less _ _ _ _ c.loop-c.invariant.0 c.in-Some.ensures.steps in
-    (f.2, laid_next c.requires.0 c.requires.1 c.loop-c.invariant.1 f.0 f.1 _ _ _ c.lay_digit.ensures.0 c.lay_digit.ensures.1 c.in_ok-made.was c.lay_digit.auto.table c.lay_digit.auto.index)
+    (f.2, laid_next c.requires.0 c.requires.1 c.loop-c.invariant.1 f.0 f.1 _ _ _ c.lay_digit.ensures.0 c.lay_digit.ensures.1 c.in-Some-lay_digit.is c.lay_digit.auto.table c.lay_digit.auto.index)
 
 pub word-requires : goal.word-requires
 word-requires c = one_frame c.requires.0 c.requires.1 c.loop-c.invariant.1 (omega (arith, c.in-None.ensures.steps.0))

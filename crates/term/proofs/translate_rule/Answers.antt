@@ -15,18 +15,17 @@ overflow_mul-nodes c =
     let k = has_rule _ c.rule_size.ensures c.in_ok-nodes.ensures.value in
     omega (arith, k.most)
 
-pub returns-in_err-frames : goal.returns-in_err-frames
-returns-in_err-frames c =
-    let p = err_from_is_err_and c.from_residual-in_err-frames.result c.from_residual-in_err-frames.ensures.1 in
+pub returns-in-Err : goal.returns-in-Err
+returns-in-Err c =
     let k = has_rule _ c.rule_size.ensures c.in_ok-nodes.ensures.value in
-    rw (p.1, p.2) (refuses _ _ _ _ (few_frames _ _ _ _ k (rw c.in_err-frames.was at c.check_frames-frames.ensures)))
+    refuses _ _ _ _ (few_frames _ _ _ _ k (rw c.in-Err.is at c.check_frames.ensures))
 
 pub place-requires : goal.place-requires
 place-requires c =
     let k = has_rule _ c.rule_size.ensures c.in_ok-nodes.ensures.value in
-    (c.requires.0, in_place c.args.table.now c.args.used _ _ k (rw c.in_ok-frames.was at c.check_frames-frames.ensures) c.requires.1)
+    (c.requires.0, in_place c.args.table.now c.args.used _ _ k (rw c.in-Ok.is at c.check_frames.ensures) c.requires.1)
 
-pub returns : goal.returns
-returns c =
+pub returns-in-Ok : goal.returns-in-Ok
+returns-in-Ok c =
     let k = has_rule _ c.rule_size.ensures c.in_ok-nodes.ensures.value in
-    (of_place _ _ _ _ k (rw c.in_ok-frames.was at c.check_frames-frames.ensures) _ c.place.ensures.0, c.place.ensures.1)
+    (of_place _ _ _ _ k (rw c.in-Ok.is at c.check_frames.ensures) _ c.place.ensures.0, c.place.ensures.1)

@@ -11,15 +11,14 @@ loop-c-init c = scan_start _
 pub wanted_after-requires : goal.wanted_after-requires
 wanted_after-requires c = omega (arith, scan_few c.loop-c.invariant, c.loop-c.invariant.inside, c.requires)
 
-pub returns-in_err-wanted : goal.returns-in_err-wanted
+pub returns-in_default : goal.returns-in_default
 unfolding ScanSays wanted_of
-returns-in_err-wanted c =
-    rw c.from_residual.ensures (scan_broken c.loop-c.invariant c.loop-c-test.true (rw c.in_err-wanted.was at c.wanted_after.ensures))
+returns-in_default c = scan_broken c.loop-c.invariant c.loop-c-test.true (rw c.in_default.is at c.wanted_after.ensures)
 
 pub loop-c-preserved : goal.loop-c-preserved
 unfolding wanted_of
 loop-c-preserved c =
-    scan_digit c.loop-c.invariant c.loop-c-test.true _ _ (rw c.in_ok-wanted.was at c.wanted_after.ensures) c.max-most.ensures
+    scan_digit c.loop-c.invariant c.loop-c-test.true _ _ (rw c.in-Some.is at c.wanted_after.ensures) c.max-most.ensures
 
 pub returns-then-wanted-eq0 : goal.returns-then-wanted-eq0
 returns-then-wanted-eq0 c = scan_whole c.loop-c.invariant c.loop-c-test.false c.if-wanted-eq0.true
